@@ -1,0 +1,8 @@
+//! What a store of sequences means, whatever holds it: the traits that stores implement and the
+//! definitions and laws that their contracts share.
+mod refusal;
+mod store;
+
+pub use refusal::Refusal;
+pub use store::ChainStore;
+pub use store::OrderedStore;

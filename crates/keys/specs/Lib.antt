@@ -1,0 +1,5 @@
+pub mod Order
+pub mod Gather
+pub mod Mix
+pub mod Letters
+pub mod Length
