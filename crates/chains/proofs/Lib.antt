@@ -1,0 +1,4 @@
+pub mod Orders
+pub mod Contents
+pub mod Entries
+pub mod Outcomes

@@ -1,3 +1,4 @@
 pub mod Contents
+pub mod Entries
 pub mod Numbers
 pub mod State
