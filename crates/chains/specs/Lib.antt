@@ -1,4 +1,5 @@
 pub mod Contents
 pub mod Entries
+pub mod Laws
 pub mod Numbers
 pub mod State
