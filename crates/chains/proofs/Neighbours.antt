@@ -18,6 +18,13 @@ use Rattle.chains.proofs.Contents.{below-all-none, below-all-trans, with-same,
 some-value : {V : Type 0} (vs : List V) → 0 < length vs → vs ≡ [] → ⊥
 some-value vs h e = let z = ap length e in omega arith
 
+-- there is one least key at most
+pub least-unique : {K : Type 0} {less : K → K → Bool} → ((x y : K) → less x y ≡ false → less y x ≡ false → x ≡ y) → (P : K → Type 0) (r s : Option K) → Least less P r → Least less P s → r ≡ s
+least-unique c P None None a b = refl
+least-unique c P None (Some j) a b = absurd (a j (b .0))
+least-unique c P (Some i) None a b = absurd (b i (a .0))
+least-unique c P (Some i) (Some j) a b = ap Some (c i j (b .1 i (a .0)) (a .1 j (b .0)))
+
 module _ {K V : Type 0} {less : K → K → Bool} (o : StrictOrder less) where
   -- a key of which k is smaller than all listed ones has values only if k is smaller than it
   listed : (c : List (K × List V)) (k j : K) → BelowAll less k c → HasValues less c j → less k j ≡ true

@@ -1,0 +1,2 @@
+mod cell;
+pub use cell::Cell;
