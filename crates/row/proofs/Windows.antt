@@ -12,7 +12,8 @@ use mathlib.Core.Logic.{_⊎_, inl, inr}
 use native.Mathlib.Nat.{zero-mul}
 use Rattle.std.proofs.shelf.Tests.{cases-lt}
 use Rattle.std.proofs.shelf.Sums.{countBy-more-yes, countBy-more-no}
-use Rattle.row.specs.Partition.{PartitionedTo, Window}
+use Rattle.std.proofs.shelf.Lists.{length-take-le, getD-take}
+use Rattle.row.specs.Partition.{Partitioned, PartitionedTo, Window}
 
 no : (b : Bool) → (b ≡ true → ⊥) → b ≡ false
 no true h = absurd (h refl)
@@ -20,6 +21,10 @@ no false h = refl
 
 apart : (b : Bool) → b ≡ true → b ≡ false → ⊥
 apart b t f = let z : _≡_ {A = Bool} true false = sym t ∙ f in let w : _≡_ {A = ℕ} 0 1 = cc in omega arith
+
+pub bit-le : (b : Bool) (n : ℕ) → cond b n 0 ≤ n
+bit-le true n = omega arith
+bit-le false n = omega arith
 
 pub pow-half : (j : ℕ) → 0 < j → 2 ^ j ≡ 2 ^ (j - 1) + 2 ^ (j - 1)
 pow-half j lt =
@@ -129,6 +134,12 @@ module _ {X : Type 0} where
 
   pub narrowed : (p : X → Bool) (xs ys : List X) (n m from : ℕ) → ((o : ℕ) (d : X) → o < m → getD xs (from + o) d ≡ getD ys o d) → from + m ≤ n → PartitionedTo p xs n → PartitionedTo p ys m
   narrowed p xs ys n m from E le P j k d jk km t = ap p (sym (E j d (omega arith))) ∙ P (from + j) (from + k) d (omega arith) (omega arith) (ap p (E k d km) ∙ t)
+
+  -- the first n items as a list of their own
+  pub partitioned-front : (p : X → Bool) (xs : List X) (n : ℕ) → n ≤ length xs → Partitioned p (take n xs) → PartitionedTo p xs n
+  partitioned-front p xs n le P j k d jk kn t =
+      let l : length (take n xs) ≡ n = length-take-le n xs le in
+      ap p (sym (getD-take n xs j d (omega arith))) ∙ P j k d jk (omega arith) (ap p (getD-take n xs k d kn) ∙ t)
 
   pub counted : (p : X → Bool) (xs : List X) (n r : ℕ) → Window p xs n r r → r ≤ n → n ≤ length xs → r ≡ countBy p (take n xs)
   counted p [] n r W le le' =

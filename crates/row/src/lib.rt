@@ -1,2 +1,5 @@
 mod blocks;
 mod ring;
+mod search;
+
+pub use search::Predicate;
