@@ -22,18 +22,20 @@ pub well-formed-set : (w : ℕ) (hs : List ℕ) (n b h k : ℕ) → WellFormed w
 well-formed-set w hs n b h k S lt le le' j jn =
     let s = S j jn in
     let l = length-set hs b h in
-    elim (cases-eq j b)
-      [ inl e ↦ (let g : getD (set hs b h) j 0 ≡ h = rw e (getD-set-same hs b h 0 (rw e at (s .0))) in
+    elim (cases-eq j b) [
+      | inl e ↦ (let g : getD (set hs b h) j 0 ≡ h = rw e (getD-set-same hs b h 0 (rw e at (s .0))) in
           let jb : j * w ≡ b * w = rw e in
           (omega arith, omega arith, omega arith))
-      | inr ne ↦ (let g : getD (set hs b h) j 0 ≡ getD hs j 0 = getD-set-other hs b j h 0 ne in (omega (arith, s .0), omega (arith, s .1), omega (arith, s .2))) ]
+      | inr ne ↦ (let g : getD (set hs b h) j 0 ≡ getD hs j 0 = getD-set-other hs b j h 0 ne in (omega (arith, s .0), omega (arith, s .1), omega (arith, s .2)))
+    ]
 
 -- heads that are all 0 are well-formed
 pub well-formed-zero : (w k n : ℕ) → 0 < w → n ≤ k * w → WellFormed w (replicate {A = ℕ} k 0) n
 well-formed-zero w k n pos le b lt =
-    elim (cases-lt b k)
-      [ inl l ↦ (let r : getD (replicate {A = ℕ} k 0) b 0 ≡ 0 = getD-replicate {A = ℕ} k b 0 0 l in let lr : length (replicate {A = ℕ} k 0) ≡ k = length-replicate {A = ℕ} k 0 in (omega arith, omega arith, omega arith))
-      | inr l ↦ (let m : k * w ≤ b * w = mul-le-mul-right w l in absurd (omega arith)) ]
+    elim (cases-lt b k) [
+      | inl l ↦ (let r : getD (replicate {A = ℕ} k 0) b 0 ≡ 0 = getD-replicate {A = ℕ} k b 0 0 l in let lr : length (replicate {A = ℕ} k 0) ≡ k = length-replicate {A = ℕ} k 0 in (omega arith, omega arith, omega arith))
+      | inr l ↦ (let m : k * w ≤ b * w = mul-le-mul-right w l in absurd (omega arith))
+    ]
 
 module _ {X : Type 0} where
   pub length-ring : (h : ℕ) (z : List X) → length (ring h z) ≡ length z
@@ -91,7 +93,7 @@ module _ {X : Type 0} where
       length-rings w (take b hs) (take (b * w) cells) e ∙ m
 
   pub rings-at : (w : ℕ) (hs : List ℕ) (b k : ℕ) (cells : List X) → Block w hs cells b k → (h : ℕ) (z : List X) → length z ≡ k
-    → rings w (set hs b h) (putMid (b * w) k cells z) ≡ front w hs b cells ++ (ring h z ++ back w hs b k cells)
+      → rings w (set hs b h) (putMid (b * w) k cells z) ≡ front w hs b cells ++ (ring h z ++ back w hs b k cells)
   rings-at w hs b k cells B h z lz =
       let n : b < length hs = B .named in
       let l : length (take b hs) ≡ b = length-take-le b hs (omega arith) in
@@ -104,12 +106,12 @@ module _ {X : Type 0} where
 
   -- the cells as they stand
   pub rings-here : (w : ℕ) (hs : List ℕ) (b k : ℕ) (cells : List X) → Block w hs cells b k
-    → rings w hs cells ≡ front w hs b cells ++ (ring (getD hs b 0) (take k (drop (b * w) cells)) ++ back w hs b k cells)
+      → rings w hs cells ≡ front w hs b cells ++ (ring (getD hs b 0) (take k (drop (b * w) cells)) ++ back w hs b k cells)
   rings-here w hs b k cells B =
       let z = take k (drop (b * w) cells) in
       let lz : length z ≡ k = length-take-le k (drop (b * w) cells) (rw length-drop (omega (arith, B .within))) in
       let e : putMid (b * w) k cells z ≡ cells =
-            ap (λ (t : List X). take (b * w) cells ++ t) (take-append-drop k (drop (b * w) cells)) ∙ take-append-drop (b * w) cells in
+      ap (λ (t : List X). take (b * w) cells ++ t) (take-append-drop k (drop (b * w) cells)) ∙ take-append-drop (b * w) cells in
       let g : set hs b (getD hs b 0) ≡ hs = set-getD hs b 0 in
       let r = rings-at w hs b k cells B (getD hs b 0) z lz in
       ap (λ (t : List X). rings w hs t) (sym e) ∙ ap (λ (t : List ℕ). rings w t (putMid (b * w) k cells z)) (sym g) ∙ r
@@ -125,8 +127,8 @@ module _ {X : Type 0} where
 
   -- one step of a cascade: a block takes x in at one place, and lets y out at another
   pub passed : (w : ℕ) (hs : List ℕ) (b k : ℕ) (cells : List X) → Block w hs cells b k → (h to to' : ℕ) (z : List X) (x y : X) → length z ≡ k → to ≤ k → to' ≤ k
-    → inserted (ring (getD hs b 0) (take k (drop (b * w) cells))) to x ≡ inserted (ring h z) to' y
-    → inserted (rings w hs cells) (b * w + to) x ≡ inserted (rings w (set hs b h) (putMid (b * w) k cells z)) (b * w + to') y
+      → inserted (ring (getD hs b 0) (take k (drop (b * w) cells))) to x ≡ inserted (ring h z) to' y
+      → inserted (rings w hs cells) (b * w + to) x ≡ inserted (rings w (set hs b h) (putMid (b * w) k cells z)) (b * w + to') y
   passed w hs b k cells B h to to' z x y lz le le' e =
       let z0 = take k (drop (b * w) cells) in
       let l0 : length z0 ≡ k = length-take-le k (drop (b * w) cells) (rw length-drop (omega (arith, B .within))) in
@@ -149,7 +151,7 @@ module _ {X : Type 0} where
   block-of w hs c b e S lt m =
       let n = S b lt in
       let wh : (e - b * w ≡ w) ⊎ (length (drop (e - b * w) (drop (b * w) c)) ≡ 0) =
-            elim (cases-lt (length c) (b * w + w)) [ inl l ↦ inr (simp length-drop (omega arith)) | inr l ↦ inl (omega arith) ] in
+      elim (cases-lt (length c) (b * w + w)) [ inl l ↦ inr (simp length-drop (omega arith)) | inr l ↦ inl (omega arith) ] in
       record { named = n .0; within = omega arith; small = omega arith; whole = wh }
 
   take-inserted : (l : List X) (i n : ℕ) (x : X) → i ≤ n → i ≤ length l → take (n + 1) (inserted l i x) ≡ inserted (take n l) i x
@@ -183,9 +185,9 @@ module _ {X : Type 0} where
 
   -- a block of a well-formed room takes x in at one place, and lets y out at another
   pub stepped : (w : ℕ) (hs : List ℕ) (c : List X) (b e : ℕ) → WellFormed w hs (length c) → b * w < length c → e ≡ min (b * w + w) (length c)
-    → (h to to' p p' : ℕ) (z : List X) (x y : X) → length z ≡ length (take (e - b * w) (drop (b * w) c)) → to ≤ e - b * w → to' ≤ e - b * w → p ≡ b * w + to → p' ≡ b * w + to'
-    → inserted (ring (getD hs b 0) (take (e - b * w) (drop (b * w) c))) to x ≡ inserted (ring h z) to' y
-    → inserted (rings w hs c) p x ≡ inserted (rings w (set hs b h) (putMid (b * w) (e - b * w) c z)) p' y
+      → (h to to' p p' : ℕ) (z : List X) (x y : X) → length z ≡ length (take (e - b * w) (drop (b * w) c)) → to ≤ e - b * w → to' ≤ e - b * w → p ≡ b * w + to → p' ≡ b * w + to'
+      → inserted (ring (getD hs b 0) (take (e - b * w) (drop (b * w) c))) to x ≡ inserted (ring h z) to' y
+      → inserted (rings w hs c) p x ≡ inserted (rings w (set hs b h) (putMid (b * w) (e - b * w) c z)) p' y
   stepped w hs c b e S lt m h to to' p p' z x y lz le le' q q' f =
       let B = block-of w hs c b e S lt m in
       let l0 : length (take (e - b * w) (drop (b * w) c)) ≡ e - b * w = length-take-le (e - b * w) (drop (b * w) c) (rw length-drop (omega (arith, B .within))) in
@@ -196,9 +198,9 @@ module _ {X : Type 0} where
   length-block c a e le le' = length-take-le (e - a) (drop a c) (rw length-drop (omega arith))
 
   pub stepped-same : (w : ℕ) (hs : List ℕ) (c : List X) (b e : ℕ) → WellFormed w hs (length c) → b * w < length c → e ≡ min (b * w + w) (length c)
-    → (to to' p p' : ℕ) (z : List X) (x y : X) → length z ≡ length (take (e - b * w) (drop (b * w) c)) → to ≤ e - b * w → to' ≤ e - b * w → p ≡ b * w + to → p' ≡ b * w + to'
-    → inserted (ring (getD hs b 0) (take (e - b * w) (drop (b * w) c))) to x ≡ inserted (ring (getD hs b 0) z) to' y
-    → inserted (rings w hs c) p x ≡ inserted (rings w hs (putMid (b * w) (e - b * w) c z)) p' y
+      → (to to' p p' : ℕ) (z : List X) (x y : X) → length z ≡ length (take (e - b * w) (drop (b * w) c)) → to ≤ e - b * w → to' ≤ e - b * w → p ≡ b * w + to → p' ≡ b * w + to'
+      → inserted (ring (getD hs b 0) (take (e - b * w) (drop (b * w) c))) to x ≡ inserted (ring (getD hs b 0) z) to' y
+      → inserted (rings w hs c) p x ≡ inserted (rings w hs (putMid (b * w) (e - b * w) c z)) p' y
   stepped-same w hs c b e S lt m to to' p p' z x y lz le le' q q' f =
       stepped w hs c b e S lt m (getD hs b 0) to to' p p' z x y lz le le' q q' f ∙ ap (λ (t : List ℕ). inserted (rings w t (putMid (b * w) (e - b * w) c z)) p' y) (set-getD hs b 0)
 
@@ -212,8 +214,8 @@ module _ {X : Type 0} where
 
   -- where an entry stands
   pub read : (w : ℕ) (hs : List ℕ) (c : List X) (b e : ℕ) → WellFormed w hs (length c) → b * w < length c → e ≡ min (b * w + w) (length c)
-    → (o at p : ℕ) (d : X) → o < e - b * w → ((getD hs b 0 + o < e - b * w) × (at ≡ getD hs b 0 + o)) ⊎ ((e - b * w ≤ getD hs b 0 + o) × (at ≡ getD hs b 0 + o - (e - b * w))) → p ≡ b * w + o
-    → getD (rings w hs c) p d ≡ getD c (b * w + at) d
+      → (o at p : ℕ) (d : X) → o < e - b * w → ((getD hs b 0 + o < e - b * w) × (at ≡ getD hs b 0 + o)) ⊎ ((e - b * w ≤ getD hs b 0 + o) × (at ≡ getD hs b 0 + o - (e - b * w))) → p ≡ b * w + o
+      → getD (rings w hs c) p d ≡ getD c (b * w + at) d
   read w hs c b e S lt m o at p d ol way q =
       let h = getD hs b 0 in
       let k = e - b * w in
@@ -226,12 +228,12 @@ module _ {X : Type 0} where
       let po : p - b * w ≡ o = omega arith in
       let al : at < k = elim way [ inl v ↦ omega (arith, v .0, v .1) | inr v ↦ omega (arith, v .0, v .1) ] in
       let r : getD (ring h z) o d ≡ getD z at d =
-            elim way [ inl v ↦ ring-near h o z d (omega (arith, v .0)) ∙ ap (λ (n : ℕ). getD z n d) (sym (v .1)) | inr v ↦ ring-far h o z d (omega arith) (omega (arith, v .0)) (omega arith) ∙ ap (λ (n : ℕ). getD z n d) (omega (arith, v .1)) ] in
+      elim way [ inl v ↦ ring-near h o z d (omega (arith, v .0)) ∙ ap (λ (n : ℕ). getD z n d) (sym (v .1)) | inr v ↦ ring-far h o z d (omega arith) (omega (arith, v .0)) (omega arith) ∙ ap (λ (n : ℕ). getD z n d) (omega (arith, v .1)) ] in
       ap (λ (t : List X). getD t p d) (rings-here w hs b k c B)
-        ∙ getD-append-right (front w hs b c) (ring h z ++ back w hs b k c) (b * w) p d lp (omega arith)
-        ∙ ap (λ (n : ℕ). getD (ring h z ++ back w hs b k c) n d) po
-        ∙ getD-append-left (ring h z) (back w hs b k c) d o (omega arith)
-        ∙ r ∙ getD-take k (drop (b * w) c) at d al ∙ getD-drop (b * w) c at d
+      ∙ getD-append-right (front w hs b c) (ring h z ++ back w hs b k c) (b * w) p d lp (omega arith)
+      ∙ ap (λ (n : ℕ). getD (ring h z ++ back w hs b k c) n d) po
+      ∙ getD-append-left (ring h z) (back w hs b k c) d o (omega arith)
+      ∙ r ∙ getD-take k (drop (b * w) c) at d al ∙ getD-drop (b * w) c at d
 
   ring-set-near : (h o : ℕ) (z : List X) (x : X) → h + o < length z → ring h (set z (h + o) x) ≡ set (ring h z) o x
   ring-set-near h o z x lt =
@@ -252,8 +254,8 @@ module _ {X : Type 0} where
 
   -- a write to the cell where an item stands changes that item alone
   pub written : (w : ℕ) (hs : List ℕ) (c : List X) (b e : ℕ) → WellFormed w hs (length c) → b * w < length c → e ≡ min (b * w + w) (length c)
-    → (o at p : ℕ) (x : X) → o < e - b * w → ((getD hs b 0 + o < e - b * w) × (at ≡ getD hs b 0 + o)) ⊎ ((e - b * w ≤ getD hs b 0 + o) × (at ≡ getD hs b 0 + o - (e - b * w))) → p ≡ b * w + o
-    → rings w hs (set c (b * w + at) x) ≡ set (rings w hs c) p x
+      → (o at p : ℕ) (x : X) → o < e - b * w → ((getD hs b 0 + o < e - b * w) × (at ≡ getD hs b 0 + o)) ⊎ ((e - b * w ≤ getD hs b 0 + o) × (at ≡ getD hs b 0 + o - (e - b * w))) → p ≡ b * w + o
+      → rings w hs (set c (b * w + at) x) ≡ set (rings w hs c) p x
   written w hs c b e S lt m o at p x ol way q =
       let h = getD hs b 0 in
       let a = b * w in
@@ -269,16 +271,17 @@ module _ {X : Type 0} where
       let here : putMid a k c z ≡ c = ap (λ (t : List X). take a c ++ t) (take-append-drop k (drop a c)) ∙ take-append-drop a c in
       let cut : set c (a + at) x ≡ putMid a k c (set z at x) = ap (λ (t : List X). set t (a + at) x) (sym here) ∙ set-mid (take a c) z f a at (a + at) x la (omega arith) refl in
       let r : ring h (set z at x) ≡ set (ring h z) o x =
-            elim way
-              [ inl v ↦ ap (λ (n : ℕ). ring h (set z n x)) (v .1) ∙ ring-set-near h o z x (omega (arith, v .0))
-              | inr v ↦ ap (λ (n : ℕ). ring h (set z n x)) (omega (arith, v .1)) ∙ ring-set-far h o z x (omega arith) (omega (arith, v .0)) (omega arith) ] in
+      elim way [
+        | inl v ↦ ap (λ (n : ℕ). ring h (set z n x)) (v .1) ∙ ring-set-near h o z x (omega (arith, v .0))
+        | inr v ↦ ap (λ (n : ℕ). ring h (set z n x)) (omega (arith, v .1)) ∙ ring-set-far h o z x (omega arith) (omega (arith, v .0)) (omega arith)
+      ] in
       let g : set hs b h ≡ hs = set-getD hs b 0 in
       let at-z = rings-at w hs b k c B h (set z at x) (length-set z at x ∙ lz) in
       ap (λ (t : List X). rings w hs t) cut
-        ∙ ap (λ (t : List ℕ). rings w t (putMid a k c (set z at x))) (sym g) ∙ at-z
-        ∙ ap (λ (t : List X). front w hs b c ++ (t ++ back w hs b k c)) r
-        ∙ sym (set-mid (front w hs b c) (ring h z) (back w hs b k c) a o p x (length-front w hs b k c B) (omega arith) q)
-        ∙ ap (λ (t : List X). set t p x) (sym (rings-here w hs b k c B))
+      ∙ ap (λ (t : List ℕ). rings w t (putMid a k c (set z at x))) (sym g) ∙ at-z
+      ∙ ap (λ (t : List X). front w hs b c ++ (t ++ back w hs b k c)) r
+      ∙ sym (set-mid (front w hs b c) (ring h z) (back w hs b k c) a o p x (length-front w hs b k c B) (omega arith) q)
+      ∙ ap (λ (t : List X). set t p x) (sym (rings-here w hs b k c B))
 
   -- a list is another with some cell put in at a place from n to m
   pub record Past (l : List X) (x : X) (n m : ℕ) (t : List X) : Type 0 where
@@ -300,7 +303,7 @@ module _ {X : Type 0} where
   drained-at w hs c x b n l x0 D = D
 
   pub drained-step : (w : ℕ) (hs hs' : List ℕ) (c c' : List X) (x y : X) (b b' e n : ℕ) (l : List X) (x0 : X) → Drained w hs c x b n l x0 → min (b * w) n ≤ e → e ≤ b * w → e ≤ length c → b' * w < n → length c' ≡ length c
-    → inserted (rings w hs c) e x ≡ inserted (rings w hs' c') (b' * w) y → Drained w hs' c' y b' n l x0
+      → inserted (rings w hs c) e x ≡ inserted (rings w hs' c') (b' * w) y → Drained w hs' c' y b' n l x0
   unfolding Drained
   drained-step w hs hs' c c' x y b b' e n l x0 D lo hi le lt n' f q lo' hi' le' =
       let v = D e lo hi le in
@@ -308,7 +311,7 @@ module _ {X : Type 0} where
       record { at = v .at; after = v .after; within = rw n' (v .within); is = ap (λ (t : ℕ). inserted (rings w hs' c') t y) (sym g) ∙ sym f ∙ v .is }
 
   pub drained-end : (w : ℕ) (hs : List ℕ) (c : List X) (x : X) (b n : ℕ) (l : List X) (x0 : X) (q : ℕ) (m : List X) (i : ℕ) (y : X) → Drained w hs c x b n l x0 → min (b * w) n ≤ q → q ≤ b * w → q ≤ length c
-    → i < n → i ≤ length m → length l ≡ length c → inserted (rings w hs c) q x ≡ inserted m i y → take n l ≡ inserted (take (n - 1) m) i y
+      → i < n → i ≤ length m → length l ≡ length c → inserted (rings w hs c) q x ≡ inserted m i y → take n l ≡ inserted (take (n - 1) m) i y
   drained-end w hs c x b n l x0 q m i y D lo hi le lt lm ll f = go (drained-at w hs c x b n l x0 D q lo hi le)
     where
       go : Past l x0 n (length c) (inserted (rings w hs c) q x) → take n l ≡ inserted (take (n - 1) m) i y
@@ -316,7 +319,7 @@ module _ {X : Type 0} where
 
   -- the entries of a block
   pub of-block : (w : ℕ) (hs : List ℕ) (c : List X) (b e : ℕ) → WellFormed w hs (length c) → b * w < length c → e ≡ min (b * w + w) (length c)
-    → (o : ℕ) (d : X) → o < e - b * w → getD (rings w hs c) (b * w + o) d ≡ getD (ring (getD hs b 0) (take (e - b * w) (drop (b * w) c))) o d
+      → (o : ℕ) (d : X) → o < e - b * w → getD (rings w hs c) (b * w + o) d ≡ getD (ring (getD hs b 0) (take (e - b * w) (drop (b * w) c))) o d
   of-block w hs c b e S lt m o d ol =
       let h = getD hs b 0 in
       let k = e - b * w in
@@ -326,9 +329,9 @@ module _ {X : Type 0} where
       let lr : length (ring h z) ≡ length z = length-ring h z in
       let po : b * w + o - b * w ≡ o = omega arith in
       ap (λ (t : List X). getD t (b * w + o) d) (rings-here w hs b k c B)
-        ∙ getD-append-right (front w hs b c) (ring h z ++ back w hs b k c) (b * w) (b * w + o) d (length-front w hs b k c B) (omega arith)
-        ∙ ap (λ (n : ℕ). getD (ring h z ++ back w hs b k c) n d) po
-        ∙ getD-append-left (ring h z) (back w hs b k c) d o (omega arith)
+      ∙ getD-append-right (front w hs b c) (ring h z ++ back w hs b k c) (b * w) (b * w + o) d (length-front w hs b k c B) (omega arith)
+      ∙ ap (λ (n : ℕ). getD (ring h z ++ back w hs b k c) n d) po
+      ∙ getD-append-left (ring h z) (back w hs b k c) d o (omega arith)
 
   -- what was put in can be read, and taken out
   pub taken-out : (xs ys : List X) (i : ℕ) (y : X) → i ≤ length ys → xs ≡ inserted ys i y → (ys ≡ removed xs i) × ((d : X) → y ≡ getD xs i d)
@@ -337,6 +340,7 @@ module _ {X : Type 0} where
       let t : take i (inserted ys i y) ≡ take i ys = take-at (take i ys) (y ∷ drop i ys) i li in
       let d0 : drop i (inserted ys i y) ≡ y ∷ drop i ys = drop-at (take i ys) (y ∷ drop i ys) i li in
       let d1 : drop (i + 1) (inserted ys i y) ≡ drop i ys = sym (drop-drop 1 i (inserted ys i y)) ∙ ap (λ (v : List X). drop 1 v) d0 in
-      let d2 : drop (suc i) (inserted ys i y) ≡ drop i ys = rw add-one at d1 in
-      (sym (ap (λ (v : List X). removed v i) e ∙ ap (λ (v : List X). v ++ drop (suc i) (inserted ys i y)) t ∙ ap (λ (v : List X). take i ys ++ v) d2 ∙ take-append-drop i ys),
-        λ d. sym (ap (λ (v : List X). getD v i d) e ∙ getD-at (take i ys) y (drop i ys) d i li))
+      let d2 : drop (suc i) (inserted ys i y) ≡ drop i ys = rw add-one at d1 in (
+        sym (ap (λ (v : List X). removed v i) e ∙ ap (λ (v : List X). v ++ drop (suc i) (inserted ys i y)) t ∙ ap (λ (v : List X). take i ys ++ v) d2 ∙ take-append-drop i ys),
+        λ d. sym (ap (λ (v : List X). getD v i d) e ∙ getD-at (take i ys) y (drop i ys) d i li),
+      )

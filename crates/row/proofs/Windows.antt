@@ -67,7 +67,7 @@ module _ {X : Type 0} where
 
   -- a turn: the test of the last entry of the lower half says which half the window becomes
   pub halved : (p : X → Bool) (xs : List X) (n lo h m : ℕ) (x : X) (b : Bool) → PartitionedTo p xs n → Window p xs n lo (lo + (h + h)) → m < n → ((d : X) → x ≡ getD xs m d) → b ≡ p x → m + 1 ≡ lo + h
-    → Window p xs n (lo + cond b h 0) (lo + cond b h 0 + h)
+      → Window p xs n (lo + cond b h 0) (lo + cond b h 0 + h)
   halved p xs n lo h m x true P W lt e t q =
       let z : lo + (h + h) ≡ lo + h + h = omega arith in
       let W' : Window p xs n lo (lo + h + h) = rw z at W in
@@ -78,7 +78,7 @@ module _ {X : Type 0} where
 
   -- the end: a window of one entry
   pub last : (p : X → Bool) (xs : List X) (n lo : ℕ) (x : X) (b : Bool) → PartitionedTo p xs n → Window p xs n lo (lo + 1) → lo < n → ((d : X) → x ≡ getD xs lo d) → b ≡ p x
-    → Window p xs n (lo + cond b 1 0) (lo + cond b 1 0)
+      → Window p xs n (lo + cond b 1 0) (lo + cond b 1 0)
   last p xs n lo x true P W lt e t = raised p xs n lo (lo + 1) lo (lo + 1) x P W lt e (sym t) (omega arith)
   last p xs n lo x false P W lt e t =
       let z : lo + 0 ≡ lo = omega arith in
@@ -109,7 +109,7 @@ module _ {X : Type 0} where
       rw (l, z, y) V
 
   pub halved-block : (p : X → Bool) (xs : List X) (n w h b : ℕ) (x : X) (t : Bool) → PartitionedTo p xs n → Window p xs n (b * w) ((b + (h + h)) * w) → (b + h) * w < n → ((d : X) → x ≡ getD xs ((b + h) * w) d) → t ≡ p x
-    → Window p xs n ((b + cond t h 0) * w) ((b + cond t h 0 + h) * w)
+      → Window p xs n ((b + cond t h 0) * w) ((b + cond t h 0 + h) * w)
   halved-block p xs n w h b x true P W lt e t =
       let z : b + (h + h) ≡ b + h + h = omega arith in
       let W' : Window p xs n (b * w) ((b + h + h) * w) = rw z at W in
@@ -120,17 +120,20 @@ module _ {X : Type 0} where
 
   -- a window within a part of the list, from `from` on
   pub widened : (p : X → Bool) (xs ys : List X) (n m from hi r : ℕ) → ((o : ℕ) (d : X) → o < m → getD xs (from + o) d ≡ getD ys o d) → Window p xs n from hi → Window p ys m r r → r ≤ m → (n ≤ from + m) ⊎ (hi ≤ from + m) → Window p xs n (from + r) (from + r)
-  widened p xs ys n m from hi r E W V le far =
-      (λ k d kl. elim (cases-lt k from)
-          [ inl l ↦ W .0 k d l
-          | inr l ↦ (let z : from + (k - from) ≡ k = omega arith in
-              let e : getD xs k d ≡ getD ys (k - from) d = subst (λ (v : ℕ). getD xs v d ≡ getD ys (k - from) d) z (E (k - from) d (omega arith)) in
-              ap p e ∙ V .0 (k - from) d (omega arith)) ]
-      , λ k d kl kn. elim (cases-lt k (from + m))
-          [ inl l ↦ (let z : from + (k - from) ≡ k = omega arith in
-              let e : getD xs k d ≡ getD ys (k - from) d = subst (λ (v : ℕ). getD xs v d ≡ getD ys (k - from) d) z (E (k - from) d (omega arith)) in
-              ap p e ∙ V .1 (k - from) d (omega arith) (omega arith))
-          | inr l ↦ elim far [ inl f ↦ absurd (omega arith) | inr f ↦ W .1 k d (omega arith) kn ] ])
+  widened p xs ys n m from hi r E W V le far = (
+    λ k d kl. elim (cases-lt k from) [
+      | inl l ↦ W .0 k d l
+      | inr l ↦ (let z : from + (k - from) ≡ k = omega arith in
+          let e : getD xs k d ≡ getD ys (k - from) d = subst (λ (v : ℕ). getD xs v d ≡ getD ys (k - from) d) z (E (k - from) d (omega arith)) in
+          ap p e ∙ V .0 (k - from) d (omega arith))
+    ],
+    λ k d kl kn. elim (cases-lt k (from + m)) [
+      | inl l ↦ (let z : from + (k - from) ≡ k = omega arith in
+          let e : getD xs k d ≡ getD ys (k - from) d = subst (λ (v : ℕ). getD xs v d ≡ getD ys (k - from) d) z (E (k - from) d (omega arith)) in
+          ap p e ∙ V .1 (k - from) d (omega arith) (omega arith))
+      | inr l ↦ elim far [ inl f ↦ absurd (omega arith) | inr f ↦ W .1 k d (omega arith) kn ]
+    ],
+  )
 
   pub narrowed : (p : X → Bool) (xs ys : List X) (n m from : ℕ) → ((o : ℕ) (d : X) → o < m → getD xs (from + o) d ≡ getD ys o d) → from + m ≤ n → PartitionedTo p xs n → PartitionedTo p ys m
   narrowed p xs ys n m from E le P j k d jk km t = ap p (sym (E j d (omega arith))) ∙ P (from + j) (from + k) d (omega arith) (omega arith) (ap p (E k d km) ∙ t)

@@ -1,6 +1,6 @@
 -- The order of the items in cells that are cut into blocks of w cells, each block a ring that begins at its head.
 use mathlib.Core.List.{List, [], _∷_, _++_}
-use Prim.Native.Nat.{ℕ, _+_, _*_, _<_}
+use Prim.Native.Nat.{ℕ, _+_, _*_, _<_, min}
 use lib.ListN.{length, take, drop, getD}
 
 -- the cells of one block, from its head on and round its end
@@ -19,3 +19,7 @@ first-items w heads cells n = take n (rings w heads cells)
 -- each block that a room has cells of has a head, which lies within the block and within the room
 abbrev pub WellFormed : ℕ → List ℕ → ℕ → Type 0
 WellFormed w heads room = (b : ℕ) → b * w < room → (b < length heads) × (getD heads b 0 < w) × (b * w + getD heads b 0 < room)
+
+-- how many cells are in use: all of them, or 32,768 if there are more
+abbrev pub room-of : {X : Type 0} → List X → ℕ
+room-of cells = min (length cells) 32768

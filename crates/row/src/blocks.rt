@@ -17,7 +17,11 @@ pub(crate) fn block_end(room: usize, start: usize) -> usize
     requires { ⌜ start ≤ room ⌝ }
     ensures { λ r. ⌜ r ≡ min (start + 256) room ⌝ }
 {
-    if room - start < BLOCK { room } else { start + BLOCK }
+    if room - start < BLOCK {
+        room
+    } else {
+        start + BLOCK
+    }
 }
 
 /// The cell in which the item at place `i` stands.
@@ -36,6 +40,26 @@ pub(crate) fn cell_of<T: Copy>(cells: &[T], heads: &[u16], i: usize) -> usize
     start + at
 }
 
+/// The item at place `i`.
+pub(crate) fn read<T: Copy>(cells: &[T], heads: &[u16], i: usize) -> T
+    requires place { ⌜ i < length (now cells) ⌝ }
+    requires heads { ⌜ WellFormed 256 (now heads) (length (now cells)) ⌝ }
+    ensures { λ r. ⌜ ((d : T) → r ≡ getD (rings 256 (now (heads .entry)) (now (cells .entry))) i d) ⌝ }
+{
+    let at = cell_of(cells, heads, i);
+    cells[at]
+}
+
+/// Puts `x` in the place of the item at place `i`.
+pub(crate) fn write<T: Copy>(cells: &mut [T], heads: &[u16], i: usize, x: T)
+    requires place { ⌜ i < length (now cells) ⌝ }
+    requires heads { ⌜ WellFormed 256 (now heads) (length (now cells)) ⌝ }
+    ensures { λ _. ⌜ rings 256 (now (heads .entry)) (now (cells .exit)) ≡ set (rings 256 (now (heads .entry)) (now (cells .entry))) i x ⌝ }
+{
+    let at = cell_of(cells, heads, i);
+    cells[at] = x;
+}
+
 /// Puts `x` at place `i` of the first `len` items; those from `i` on move one place up.
 pub(crate) fn insert<T: Copy>(cells: &mut [T], heads: &mut [u16], len: usize, i: usize, x: T)
     requires place { ⌜ i ≤ len ⌝ }
@@ -48,7 +72,13 @@ pub(crate) fn insert<T: Copy>(cells: &mut [T], heads: &mut [u16], len: usize, i:
     let start = first * BLOCK;
     let end = block_end(cells.len(), start);
     let stop = if len < end { len + 1 } else { end };
-    let mut carried = insert_shift(&mut cells[start..end], heads[first] as usize, i - start, stop - start, x);
+    let mut carried = insert_shift(
+        &mut cells[start..end],
+        heads[first] as usize,
+        i - start,
+        stop - start,
+        x,
+    );
     for b in first + 1..len / BLOCK + 1 {
         let start = b * BLOCK;
         let end = block_end(cells.len(), start);
@@ -79,5 +109,11 @@ pub(crate) fn remove<T: Copy>(cells: &mut [T], heads: &mut [u16], len: usize, i:
     let start = first * BLOCK;
     let end = block_end(cells.len(), start);
     let stop = if len < end { len } else { end };
-    remove_shift(&mut cells[start..end], heads[first] as usize, i - start, stop - start, carried)
+    remove_shift(
+        &mut cells[start..end],
+        heads[first] as usize,
+        i - start,
+        stop - start,
+        carried,
+    )
 }

@@ -19,7 +19,12 @@ pub trait Predicate<T> {
 }
 
 /// How many of the first `len` items satisfy `p`, if those that do stand before the others.
-pub(crate) fn partition_point<T: Copy, P: Predicate<T>>(cells: &[T], heads: &[u16], len: usize, p: &P) -> usize
+pub(crate) fn partition_point<T: Copy, P: Predicate<T>>(
+    cells: &[T],
+    heads: &[u16],
+    len: usize,
+    p: &P,
+) -> usize
     requires room { ⌜ len ≤ length (now cells) ⌝ }
     requires heads { ⌜ WellFormed 256 (now heads) (length (now cells)) ⌝ }
     ensures within { λ r. ⌜ r ≤ len ⌝ }
@@ -46,7 +51,11 @@ fn find_block<T: Copy, P: Predicate<T>>(cells: &[T], heads: &[u16], len: usize, 
     let blocks = (len - 1) / BLOCK + 1;
     let mut j = blocks.ilog2();
     let last = blocks - power(j);
-    let mut b = if p.test(block_first(cells, heads, last)) { last } else { 0 };
+    let mut b = if p.test(block_first(cells, heads, last)) {
+        last
+    } else {
+        0
+    };
     while 0 < j {
         j -= 1;
         let mid = b + power(j);
@@ -56,7 +65,12 @@ fn find_block<T: Copy, P: Predicate<T>>(cells: &[T], heads: &[u16], len: usize, 
 }
 
 // How many of the first `n` items of a ring satisfy `p`.
-fn ring_partition_point<T: Copy, P: Predicate<T>>(block: &[T], head: usize, n: usize, p: &P) -> usize
+fn ring_partition_point<T: Copy, P: Predicate<T>>(
+    block: &[T],
+    head: usize,
+    n: usize,
+    p: &P,
+) -> usize
     requires some { ⌜ 0 < n ⌝ }
     requires room { ⌜ n ≤ length (now block) ⌝ }
     requires head { ⌜ head ≤ length (now block) ⌝ }
@@ -65,7 +79,11 @@ fn ring_partition_point<T: Copy, P: Predicate<T>>(block: &[T], head: usize, n: u
 {
     let mut j = n.ilog2();
     let width = power(j);
-    let mut low = if p.test(ring_item(block, head, width - 1)) { n - width } else { 0 };
+    let mut low = if p.test(ring_item(block, head, width - 1)) {
+        n - width
+    } else {
+        0
+    };
     while 0 < j {
         j -= 1;
         let half = power(j);

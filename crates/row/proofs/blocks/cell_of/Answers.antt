@@ -19,7 +19,7 @@ returns g c =
     let at = c .if-turned-size .at in
     let s = c .pre .heads b (omega arith) in
     let way : ((t < k) × (at ≡ t)) ⊎ ((k ≤ t) × (at ≡ t - k)) =
-          elim (c .if-turned-size .came) [ then-turned-size w ↦ inl (w .if-turned-size .taken, w .at-is) | else-turned-size w ↦ inr (w .if-turned-size .left, w .at-is) ] in
+    elim (c .if-turned-size .came) [ then-turned-size w ↦ inl (w .if-turned-size .taken, w .at-is) | else-turned-size w ↦ inr (w .if-turned-size .left, w .at-is) ] in
     record {
       within = elim way [ inl v ↦ omega (arith, v .0, v .1) | inr v ↦ omega (arith, v .0, v .1) ];
       read = λ d. read 256 (c .args .heads .now) (c .args .cells .now) b e (c .pre .heads) (omega arith) (c .block-end .ensures) (c .args .i % 256) at (c .args .i) d (omega arith) way (omega arith);

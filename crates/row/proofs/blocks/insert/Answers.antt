@@ -62,7 +62,7 @@ loop-b-again g c =
     let q = c .loop-b .inv .2 in
     let at : q .0 ≡ a + 0 = omega arith in
     let p = stepped 256 hs cs b e (c .loop-b .inv .0) (omega arith) (c .block-end-end-in-loop-b .ensures) h 0 (length (take (e - a) (drop a cs))) (q .0) e z
-              (c .loop-b .carried) (c .rotate-in-front-head .result .1) lz (omega arith) (omega arith) at (omega arith) (c .rotate-in-front-head .ensures .cells) in
+    (c .loop-b .carried) (c .rotate-in-front-head .result .1) lz (omega arith) (omega arith) at (omega arith) (c .rotate-in-front-head .ensures .cells) in
     (subst (λ (v : ℕ). WellFormed 256 (set hs b h) v) (sym n) s, omega arith, (e, omega arith, omega arith, omega arith, sym p ∙ q .4))
 
 pub returns : need.returns
@@ -82,5 +82,5 @@ returns g c =
     let l1 = length-all 256 (c .loop-b .heads) (c .loop-b .cells) (c .loop-b .inv .0) in
     let q = c .loop-b .inv .2 in
     let p = stepped-same 256 hs cs (c .args .i / 256) e (c .pre .heads) (omega arith) (c .block-end-end .ensures) (c .args .i - a) (c .if-len-end .stop - a) (c .args .i) (c .if-len-end .stop) z
-              (c .args .x) (c .insert-shift-carried .result) lz (omega arith) (omega arith) (omega arith) (omega arith) (c .insert-shift-carried .ensures) in
+    (c .args .x) (c .insert-shift-carried .result) lz (omega arith) (omega arith) (omega arith) (omega arith) (c .insert-shift-carried .ensures) in
     record { heads = s; after = grown (rings 256 hs cs) (rings 256 (c .loop-b .heads) (c .loop-b .cells)) (c .args .i) (c .args .len) (q .0) (c .args .x) (c .loop-b .carried) (c .pre .place) (omega arith) (omega (arith, c .loop-b-test .left)) (omega arith) (q .4 ∙ sym p) }

@@ -49,9 +49,13 @@ loop-b-again g c =
     let hl : h < e - a = omega (arith, c .rotate-in-back-head .ensures .head) in
     let s = well-formed-set 256 hs (length cs) b h (e - a) (c .loop-b .inv .0) hl (omega arith) (omega arith) in
     let p = stepped 256 hs cs b e (c .loop-b .inv .0) (omega arith) (c .block-end-end .ensures) h (length (take (e - a) (drop a cs))) 0 e a z
-              (c .loop-b .carried) (c .rotate-in-back-head .result .1) lz (omega arith) (omega arith) (omega arith) (omega arith) (c .rotate-in-back-head .ensures .cells) in
-    (subst (λ (v : ℕ). WellFormed 256 (set hs b h) v) (sym n) s, omega arith, omega arith, omega arith,
-      drained-step 256 hs (set hs b h) cs (putMid a (e - a) cs z) (c .loop-b .carried) (c .rotate-in-back-head .result .1) (c .loop-b .b) b e (c .args .len) (rings 256 (c .args .heads .now) (c .args .cells .now)) (c .index-cells-i .result) (c .loop-b .inv .4) (omega arith) (omega arith) (omega arith) (omega arith) n p)
+    (c .loop-b .carried) (c .rotate-in-back-head .result .1) lz (omega arith) (omega arith) (omega arith) (omega arith) (c .rotate-in-back-head .ensures .cells) in (
+      subst (λ (v : ℕ). WellFormed 256 (set hs b h) v) (sym n) s,
+      omega arith,
+      omega arith,
+      omega arith,
+      drained-step 256 hs (set hs b h) cs (putMid a (e - a) cs z) (c .loop-b .carried) (c .rotate-in-back-head .result .1) (c .loop-b .b) b e (c .args .len) (rings 256 (c .args .heads .now) (c .args .cells .now)) (c .index-cells-i .result) (c .loop-b .inv .4) (omega arith) (omega arith) (omega arith) (omega arith) n p,
+    )
 
 pub index-heads-first : need.index-heads-first
 index-heads-first g c = c .loop-b .inv .0 (c .args .i / 256) (omega arith) .0
@@ -84,11 +88,11 @@ returns g c =
     let lz = c .remove-shift .kept .block in
     let n = length-putMid a (e - a) cs z (lz ∙ lb) (omega arith) in
     let p = stepped-same 256 hs cs b e (c .loop-b .inv .0) (omega arith) (c .block-end-end-2 .ensures) (stop - a) (c .args .i - a) stop (c .args .i) z
-              (c .loop-b .carried) (c .remove-shift .result) lz (omega arith) (omega arith) (omega arith) (omega arith) (c .remove-shift .ensures) in
+    (c .loop-b .carried) (c .remove-shift .result) lz (omega arith) (omega arith) (omega arith) (omega arith) (c .remove-shift .ensures) in
     let l0 = length-all 256 (c .args .heads .now) (c .args .cells .now) (c .pre .heads) in
     let l1 = length-all 256 hs (putMid a (e - a) cs z) (subst (λ (v : ℕ). WellFormed 256 hs v) (sym n) (c .loop-b .inv .0)) in
     let m = rings 256 hs (putMid a (e - a) cs z) in
     let lm : c .args .i ≤ length (take (c .args .len - 1) m) = short m (c .args .i) (c .args .len) (c .pre .place) (below (c .args .len) (length cs) (length m) (c .loop-b .inv .1) (l1 ∙ n)) in
     let out = taken-out (take (c .args .len) (rings 256 (c .args .heads .now) (c .args .cells .now))) (take (c .args .len - 1) m) (c .args .i) (c .remove-shift .result) lm
-          (drained-end 256 hs cs (c .loop-b .carried) (c .loop-b .b) (c .args .len) (rings 256 (c .args .heads .now) (c .args .cells .now)) (c .index-cells-i .result) stop (rings 256 hs (putMid a (e - a) cs z)) (c .args .i) (c .remove-shift .result) (c .loop-b .inv .4) q1 q2 q3 (c .pre .place) (below (c .args .i) (length cs) (length (rings 256 hs (putMid a (e - a) cs z))) il (l1 ∙ n)) (l0 ∙ sym N) p) in
+    (drained-end 256 hs cs (c .loop-b .carried) (c .loop-b .b) (c .args .len) (rings 256 (c .args .heads .now) (c .args .cells .now)) (c .index-cells-i .result) stop (rings 256 hs (putMid a (e - a) cs z)) (c .args .i) (c .remove-shift .result) (c .loop-b .inv .4) q1 q2 q3 (c .pre .place) (below (c .args .i) (length cs) (length (rings 256 hs (putMid a (e - a) cs z))) il (l1 ∙ n)) (l0 ∙ sym N) p) in
     record { heads = subst (λ (v : ℕ). WellFormed 256 hs v) N (c .loop-b .inv .0); item = out .1; after = out .0 }

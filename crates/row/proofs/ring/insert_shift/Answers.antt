@@ -37,4 +37,4 @@ returns-then-to-near g c =
     let lz = length-putMid (h + to) (n - (h + to)) z u (s .kept .run ∙ length-block z (h + to) n (omega arith) (omega arith)) (omega arith) in
     let k = stop - (n - h) - 0 in
     near-in z h to (h + to) (n - (h + to)) (n - h) (c .args .x) (s .result) u refl (omega arith) (omega arith) (s .ensures)
-      ∙ far-in (putMid (h + to) (n - (h + to)) z u) h (n - h) 0 k stop (s .result) (t .result) (t .last .run) (omega arith) (omega arith) (omega arith) (omega arith) (t .ensures)
+    ∙ far-in (putMid (h + to) (n - (h + to)) z u) h (n - h) 0 k stop (s .result) (t .result) (t .last .run) (omega arith) (omega arith) (omega arith) (omega arith) (t .ensures)

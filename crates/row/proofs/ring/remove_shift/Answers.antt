@@ -37,4 +37,4 @@ returns-then-to-near g c =
     let k = stop - (n - h) - 0 in
     let lz = length-putMid 0 k z u (s .kept .run ∙ length-block z 0 (stop - (n - h)) (omega arith) (omega arith)) (omega arith) in
     far-out z h (n - h) 0 k stop (c .args .x) (s .result) u (c .pre .head) (omega arith) (omega arith) (omega arith) (s .ensures)
-      ∙ near-out (putMid 0 k z u) h to (h + to) (n - (h + to)) (n - h) (s .result) (t .result) (t .last .run) refl (omega arith) (omega arith) (t .ensures)
+    ∙ near-out (putMid 0 k z u) h to (h + to) (n - (h + to)) (n - h) (s .result) (t .result) (t .last .run) refl (omega arith) (omega arith) (t .ensures)

@@ -13,5 +13,5 @@ returns g c =
     let n = length (c .args .block .now) in
     let lt : b < n = elim (c .if-head-eq0 .came) [ then-head-eq0 w ↦ omega (arith, w .back-is) | else-head-eq0 w ↦ omega (arith, w .back-is) ] in
     let at : (b + 1 ≡ c .args .head) ⊎ ((c .args .head ≡ 0) × (b + 1 ≡ n)) =
-          elim (c .if-head-eq0 .came) [ then-head-eq0 w ↦ inr (w .if-head-eq0 .taken, omega (arith, w .back-is)) | else-head-eq0 w ↦ inl (omega (arith, w .back-is, w .if-head-eq0 .left)) ] in
+    elim (c .if-head-eq0 .came) [ then-head-eq0 w ↦ inr (w .if-head-eq0 .taken, omega (arith, w .back-is)) | else-head-eq0 w ↦ inl (omega (arith, w .back-is, w .if-head-eq0 .left)) ] in
     record { head = lt; cells = front-in-from (c .args .block .now) (c .args .head) b (c .args .x) (c .index-block-back .result) lt at (c .index-block-back .is) }

@@ -18,4 +18,4 @@ returns g c d =
     let s = c .pre .heads b (c .pre .within) in
     let h = getD hs b 0 in
     getD-read cs (b * 256 + h) (c .index-cells-b .result) (s .2) (c .index-cells-b .is) d
-      ∙ sym (read 256 hs cs b (min (b * 256 + 256) (length cs)) (c .pre .heads) (c .pre .within) refl 0 h (b * 256) d (omega arith) (inl (omega arith, omega arith)) (omega arith))
+    ∙ sym (read 256 hs cs b (min (b * 256 + 256) (length cs)) (c .pre .heads) (c .pre .within) refl 0 h (b * 256) d (omega arith) (inl (omega arith, omega arith)) (omega arith))

@@ -42,15 +42,15 @@ returns g c =
     let xs = rings 256 hs cs in
     let ys = ring (getD hs b 0) (take (e - a) (drop a cs)) in
     let far : (n ≤ a + (stop - a)) ⊎ ((b + 1) * 256 ≤ a + (stop - a)) =
-          elim (cases-lt stop ((b + 1) * 256)) [ inl l ↦ inl (omega arith) | inr l ↦ inr (omega arith) ] in
+    elim (cases-lt stop ((b + 1) * 256)) [ inl l ↦ inl (omega arith) | inr l ↦ inr (omega arith) ] in
     let le : a + r ≤ n = omega (arith, c .ring-partition-point .ensures .within) in
     let l = length-all 256 hs cs (c .pre .heads) in
     let E : (o : ℕ) (d : _) → o < stop - a → getD xs (a + o) d ≡ getD ys o d = λ o d ol. of-block 256 hs cs b e (c .pre .heads) lt (c .block-end-end .ensures) o d (omega arith) in
     record {
       within = le;
       point = λ part.
-        (let P = partitioned-front p xs n (omega arith) part in
-        let V = c .ring-partition-point .ensures .window (narrowed p xs ys n (stop - a) a E (omega arith) P) in
-        let W = widened p xs ys n (stop - a) a ((b + 1) * 256) r E (c .find-block-b .ensures .window P) V (c .ring-partition-point .ensures .within) far in
-        counted p xs n (a + r) W le (omega arith));
+          (let P = partitioned-front p xs n (omega arith) part in
+          let V = c .ring-partition-point .ensures .window (narrowed p xs ys n (stop - a) a E (omega arith) P) in
+          let W = widened p xs ys n (stop - a) a ((b + 1) * 256) r E (c .find-block-b .ensures .window P) V (c .ring-partition-point .ensures .within) far in
+          counted p xs n (a + r) W le (omega arith));
     }

@@ -17,9 +17,11 @@ loop-j-holds g c =
     let b = c .test .result in
     let n = c .args .n in
     let l : c .if-test .low ≡ cond b (n - h) 0 =
-          elim (c .if-test .came) [ then-test w ↦ w .low-is ∙ rw (w .if-test .taken) (omega arith) | else-test w ↦ w .low-is ∙ rw (w .if-test .left) ] in
-    (omega arith, omega (arith, bit-le b (n - h)),
-      λ part. first (g .P·Predicate .holds (c .args .p .now)) (ring (c .args .head) (c .args .block .now)) n h (c .power-width .result - 1) (c .if-test .low) (c .ring-item .result) b part (omega arith) (c .ring-item .ensures) (c .test .ensures) (omega arith) (omega arith) (omega arith) l)
+    elim (c .if-test .came) [ then-test w ↦ w .low-is ∙ rw (w .if-test .taken) (omega arith) | else-test w ↦ w .low-is ∙ rw (w .if-test .left) ] in (
+      omega arith,
+      omega (arith, bit-le b (n - h)),
+      λ part. first (g .P·Predicate .holds (c .args .p .now)) (ring (c .args .head) (c .args .block .now)) n h (c .power-width .result - 1) (c .if-test .low) (c .ring-item .result) b part (omega arith) (c .ring-item .ensures) (c .test .ensures) (omega arith) (omega arith) (omega arith) l,
+    )
 
 pub add-low : need.add-low
 add-low g c = let q = pow-half (c .loop-j .j) (c .loop-j-test .taken) in omega arith
@@ -41,11 +43,13 @@ loop-j-again g c =
     let m = bit-le b h in
     let p = g .P·Predicate .holds (c .args .p .now) in
     let xs = ring (c .args .head) (c .args .block .now) in
-    let r : c .power-if-low .result ≡ cond b h 0 = c .power-if-low .ensures in
-    (omega arith, omega arith,
+    let r : c .power-if-low .result ≡ cond b h 0 = c .power-if-low .ensures in (
+      omega arith,
+      omega arith,
       λ part. let W : Window p xs n lo (lo + (h + h)) = subst (λ (v : ℕ). Window p xs n lo (lo + v)) q (c .loop-j .inv .2 part) in
-        let V = halved p xs n lo h (lo + c .power-half .result - 1) (c .ring-item-in-loop-j .result) b part W (omega arith) (c .ring-item-in-loop-j .ensures) (c .test-in-loop-j .ensures) (omega arith) in
-        subst (λ (v : ℕ). Window p xs n (lo + v) (lo + v + h)) (sym r) V)
+          let V = halved p xs n lo h (lo + c .power-half .result - 1) (c .ring-item-in-loop-j .result) b part W (omega arith) (c .ring-item-in-loop-j .ensures) (c .test-in-loop-j .ensures) (omega arith) in
+          subst (λ (v : ℕ). Window p xs n (lo + v) (lo + v + h)) (sym r) V,
+    )
 
 pub returns : need.returns
 returns g c =
@@ -61,6 +65,6 @@ returns g c =
     record {
       within = omega arith;
       window = λ part. (let W : Window p xs n lo (lo + 1) = subst (λ (v : ℕ). Window p xs n lo (lo + v)) one (c .loop-j .inv .2 part) in
-        let V = last p xs n lo (c .ring-item-2 .result) b part W (omega arith) (c .ring-item-2 .ensures) (c .test-2 .ensures) in
-        subst (λ (v : ℕ). Window p xs n v v) r V);
+          let V = last p xs n lo (c .ring-item-2 .result) b part W (omega arith) (c .ring-item-2 .ensures) (c .test-2 .ensures) in
+          subst (λ (v : ℕ). Window p xs n v v) r V);
     }
