@@ -41,7 +41,7 @@ module _ {X K V : Type 0} {less : K → K → Bool} (o : StrictOrder less) (key 
       let ih = contents-sequence es k in
       ⊎-elim
       (λ (t : same less (key e) k ≡ true). let q = same-eq o (key e) k t in let s = with-same o (contents-of less key value es) (key e) vs (contents-ascending es) in
-        rw t (cc))
+      rw t (cc))
       (λ (f : same less (key e) k ≡ false). rw f (with-other o (contents-of less key value es) (key e) vs k f ∙ ih))
       (cases-bool (same less (key e) k))
 
@@ -63,51 +63,51 @@ module _ {X K V : Type 0} {less : K → K → Bool} (o : StrictOrder less) (key 
   -- ---- one entry among others
 
   own : (xs : List X) (c : X) (ys : List X) (k : K) → key c ≡ k
-    → values-under less key value (xs ++ c ∷ ys) k ≡ values-under less key value xs k ++ value c ∷ values-under less key value ys k
+      → values-under less key value (xs ++ c ∷ ys) k ≡ values-under less key value xs k ++ value c ∷ values-under less key value ys k
   own xs c ys k q = let a = same-refl o (key c) k q in values-++ xs (c ∷ ys) k ∙ rw a
 
   others : (xs : List X) (c : X) (ys : List X) (k j : K) → key c ≡ k → same less k j ≡ false
-    → values-under less key value (xs ++ c ∷ ys) j ≡ values-under less key value (xs ++ ys) j
+      → values-under less key value (xs ++ c ∷ ys) j ≡ values-under less key value (xs ++ ys) j
   others xs c ys k j q f =
       let a : same less (key c) j ≡ false = ap (λ x. same less x j) q ∙ f in values-++ xs (c ∷ ys) j ∙ rw a (sym (values-++ xs ys j))
 
   -- an entry more: its value comes in at the rank that the entries before it give
   pub entry-put : (xs : List X) (c : X) (ys : List X) (k : K) (rank : ℕ) → key c ≡ k → length (values-under less key value xs k) ≡ rank
-    → contents-of less key value (xs ++ c ∷ ys)
+      → contents-of less key value (xs ++ c ∷ ys)
       ≡ with-sequence less (contents-of less key value (xs ++ ys)) k (inserted (sequence less (contents-of less key value (xs ++ ys)) k) rank (value c))
   entry-put xs c ys k rank q n =
       with-known o (contents-of less key value (xs ++ ys)) (contents-of less key value (xs ++ c ∷ ys)) k _ (contents-ascending (xs ++ ys)) (contents-ascending (xs ++ c ∷ ys))
       (let e = contents-sequence (xs ++ ys) k ∙ values-++ xs ys k in
-        let a = take-at (values-under less key value xs k) (values-under less key value ys k) rank n in
-        let b = drop-at (values-under less key value xs k) (values-under less key value ys k) rank n in
-        contents-sequence (xs ++ c ∷ ys) k ∙ own xs c ys k q ∙ rw (e, a, b))
+      let a = take-at (values-under less key value xs k) (values-under less key value ys k) rank n in
+      let b = drop-at (values-under less key value xs k) (values-under less key value ys k) rank n in
+      contents-sequence (xs ++ c ∷ ys) k ∙ own xs c ys k q ∙ rw (e, a, b))
       (λ j f. contents-sequence (xs ++ c ∷ ys) j ∙ others xs c ys k j q f ∙ sym (contents-sequence (xs ++ ys) j))
 
   -- an entry less
   pub entry-taken : (xs : List X) (c : X) (ys : List X) (k : K) (rank : ℕ) → key c ≡ k → length (values-under less key value xs k) ≡ rank
-    → contents-of less key value (xs ++ ys)
+      → contents-of less key value (xs ++ ys)
       ≡ with-sequence less (contents-of less key value (xs ++ c ∷ ys)) k (removed (sequence less (contents-of less key value (xs ++ c ∷ ys)) k) rank)
   entry-taken xs c ys k rank q n =
       with-known o (contents-of less key value (xs ++ c ∷ ys)) (contents-of less key value (xs ++ ys)) k _ (contents-ascending (xs ++ c ∷ ys)) (contents-ascending (xs ++ ys))
       (let e = contents-sequence (xs ++ c ∷ ys) k ∙ own xs c ys k q in
-        let a = take-at (values-under less key value xs k) (value c ∷ values-under less key value ys k) rank n in
-        let b = drop-suc (values-under less key value xs k) (value c) (values-under less key value ys k) rank n in
-        contents-sequence (xs ++ ys) k ∙ values-++ xs ys k ∙ rw (e, a, b))
+      let a = take-at (values-under less key value xs k) (value c ∷ values-under less key value ys k) rank n in
+      let b = drop-suc (values-under less key value xs k) (value c) (values-under less key value ys k) rank n in
+      contents-sequence (xs ++ ys) k ∙ values-++ xs ys k ∙ rw (e, a, b))
       (λ j f. contents-sequence (xs ++ ys) j ∙ sym (others xs c ys k j q f) ∙ sym (contents-sequence (xs ++ c ∷ ys) j))
 
   -- another entry of the same key in its place
   pub entry-set : (xs : List X) (c d : X) (ys : List X) (k : K) (rank : ℕ) → key c ≡ k → key d ≡ k → length (values-under less key value xs k) ≡ rank
-    → contents-of less key value (xs ++ d ∷ ys)
+      → contents-of less key value (xs ++ d ∷ ys)
       ≡ with-sequence less (contents-of less key value (xs ++ c ∷ ys)) k (set (sequence less (contents-of less key value (xs ++ c ∷ ys)) k) rank (value d))
   entry-set xs c d ys k rank q p n =
       with-known o (contents-of less key value (xs ++ c ∷ ys)) (contents-of less key value (xs ++ d ∷ ys)) k _ (contents-ascending (xs ++ c ∷ ys)) (contents-ascending (xs ++ d ∷ ys))
       (let e = contents-sequence (xs ++ c ∷ ys) k ∙ own xs c ys k q in
-        let a = set-at (values-under less key value xs k) (value c) (values-under less key value ys k) (value d) rank n in
-        contents-sequence (xs ++ d ∷ ys) k ∙ own xs d ys k p ∙ rw (e, a))
+      let a = set-at (values-under less key value xs k) (value c) (values-under less key value ys k) (value d) rank n in
+      contents-sequence (xs ++ d ∷ ys) k ∙ own xs d ys k p ∙ rw (e, a))
       (λ j f. contents-sequence (xs ++ d ∷ ys) j ∙ others xs d ys k j p f ∙ sym (others xs c ys k j q f) ∙ sym (contents-sequence (xs ++ c ∷ ys) j))
 
   pub entry-nth : (xs : List X) (c : X) (ys : List X) (k : K) (rank : ℕ) → key c ≡ k → length (values-under less key value xs k) ≡ rank
-    → nth (sequence less (contents-of less key value (xs ++ c ∷ ys)) k) rank ≡ Some (value c)
+      → nth (sequence less (contents-of less key value (xs ++ c ∷ ys)) k) rank ≡ Some (value c)
   entry-nth xs c ys k rank q n =
       let e = contents-sequence (xs ++ c ∷ ys) k ∙ own xs c ys k q in
       rw e (nth-at (values-under less key value xs k) (value c) (values-under less key value ys k) rank n)

@@ -57,7 +57,7 @@ module _ {K V : Type 0} {less : K → K → Bool} (o : StrictOrder less) where
   first-least (e ∷ c) r = (at-head e c r, λ j h. not-before e c j r h)
 
   last-step : (e : K × List V) (c : List (K × List V)) (l : Option K) → Ascending less (e ∷ c) → Greatest less (HasValues less c) l
-    → Greatest less (HasValues less (e ∷ c)) (or-else l (e .0))
+      → Greatest less (HasValues less (e ∷ c)) (or-else l (e .0))
   last-step e c None r g =
       (at-head e c r, λ j h. placed e c j (less (e .0) j ≡ false) h (λ q. ap (less (e .0)) (sym q) ∙ o .irreflexive (e .0)) (λ t. absurd (g j t)))
   last-step e c (Some l) r g =
@@ -68,12 +68,13 @@ module _ {K V : Type 0} {less : K → K → Bool} (o : StrictOrder less) where
   last-greatest (e ∷ c) r = last-step e c (last-key c) r (last-greatest c (r .2))
 
   above-step : (e : K × List V) (c : List (K × List V)) (k : K) (a : Option K) → Ascending less (e ∷ c) → less k (e .0) ≡ false
-    → Least less (λ j. HasValues less c j × (less k j ≡ true)) a → Least less (λ j. HasValues less (e ∷ c) j × (less k j ≡ true)) a
+      → Least less (λ j. HasValues less c j × (less k j ≡ true)) a → Least less (λ j. HasValues less (e ∷ c) j × (less k j ≡ true)) a
   above-step e c k None r f g = λ j h.
       placed e c j ⊥ (h .0) (λ q. both-ways (less k j) (ap (less k) (sym q) ∙ f) (h .1)) (λ t. g j (t, h .1))
-  above-step e c k (Some a) r f g =
-      ((in-tail e c a r (g .0 .0), g .0 .1),
-        λ j h. placed e c j (less j a ≡ false) (h .0) (λ q. absurd (both-ways (less k j) (ap (less k) (sym q) ∙ f) (h .1))) (λ t. g .1 j (t, h .1)))
+  above-step e c k (Some a) r f g = (
+    (in-tail e c a r (g .0 .0), g .0 .1),
+    λ j h. placed e c j (less j a ≡ false) (h .0) (λ q. absurd (both-ways (less k j) (ap (less k) (sym q) ∙ f) (h .1))) (λ t. g .1 j (t, h .1)),
+  )
 
   pub above-least : (c : List (K × List V)) (k : K) → Ascending less c → Least less (λ j. HasValues less c j × (less k j ≡ true)) (key-above less c k)
   above-least [] k r = λ j h. omega (arith, h .0)
@@ -84,12 +85,13 @@ module _ {K V : Type 0} {less : K → K → Bool} (o : StrictOrder less) where
       (cases-bool (less k (e .0)))
 
   below-step : (e : K × List V) (c : List (K × List V)) (k : K) (b : Option K) → Ascending less (e ∷ c) → less (e .0) k ≡ true
-    → Greatest less (λ j. HasValues less c j × (less j k ≡ true)) b → Greatest less (λ j. HasValues less (e ∷ c) j × (less j k ≡ true)) (or-else b (e .0))
+      → Greatest less (λ j. HasValues less c j × (less j k ≡ true)) b → Greatest less (λ j. HasValues less (e ∷ c) j × (less j k ≡ true)) (or-else b (e .0))
   below-step e c k None r t g =
       ((at-head e c r, t), λ j h. placed e c j (less (e .0) j ≡ false) (h .0) (λ q. ap (less (e .0)) (sym q) ∙ o .irreflexive (e .0)) (λ u. absurd (g j (u, h .1))))
-  below-step e c k (Some b) r t g =
-      ((in-tail e c b r (g .0 .0), g .0 .1),
-        λ j h. placed e c j (less b j ≡ false) (h .0) (λ q. ap (less b) (sym q) ∙ asymmetric o (e .0) b (listed c (e .0) b (r .1) (g .0 .0))) (λ u. g .1 j (u, h .1)))
+  below-step e c k (Some b) r t g = (
+    (in-tail e c b r (g .0 .0), g .0 .1),
+    λ j h. placed e c j (less b j ≡ false) (h .0) (λ q. ap (less b) (sym q) ∙ asymmetric o (e .0) b (listed c (e .0) b (r .1) (g .0 .0))) (λ u. g .1 j (u, h .1)),
+  )
 
   pub below-greatest : (c : List (K × List V)) (k : K) → Ascending less c → Greatest less (λ j. HasValues less c j × (less j k ≡ true)) (key-below less c k)
   below-greatest [] k r = λ j h. omega (arith, h .0)
@@ -97,10 +99,10 @@ module _ {K V : Type 0} {less : K → K → Bool} (o : StrictOrder less) where
       ⊎-elim
       (λ (t : less (e .0) k ≡ true). rw t (below-step e c k (key-below less c k) r t (below-greatest c k (r .2))))
       (λ (f : less (e .0) k ≡ false). rw f (λ j h.
-        ⊎-elim
-        (λ (u : less (e .0) j ≡ true). both-ways (less (e .0) k) f (o .transitive (e .0) j k u (h .1)))
-        (λ (u : less (e .0) j ≡ false). both-ways (less (e .0) k) f (ap (λ x. less x k) (o .connected (e .0) j u (not-before e c j r (h .0))) ∙ h .1))
-        (cases-bool (less (e .0) j))))
+      ⊎-elim
+      (λ (u : less (e .0) j ≡ true). both-ways (less (e .0) k) f (o .transitive (e .0) j k u (h .1)))
+      (λ (u : less (e .0) j ≡ false). both-ways (less (e .0) k) f (ap (λ x. less x k) (o .connected (e .0) j u (not-before e c j r (h .0))) ∙ h .1))
+      (cases-bool (less (e .0) j))))
       (cases-bool (less (e .0) k))
 
   pub contents-laws : ContentsLaws less V

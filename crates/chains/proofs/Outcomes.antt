@@ -22,7 +22,7 @@ module _ {K V : Type 0} (less : K → K → Bool) (s : StoreState K V) (k : K) (
       rw (t, u)
 
   pub put-done : (v : V) (t : StoreState K V) → rank ≤ length (values less s k) → used (s .section) (s .contents) (s .section k) < s .room (s .section k)
-    → t ≡ with-values less s k (inserted (values less s k) rank v) → (Ok tt, t) ≡ put-outcome less s k rank v
+      → t ≡ with-values less s k (inserted (values less s k) rank v) → (Ok tt, t) ≡ put-outcome less s k rank v
   put-done v t h r e =
       let l = le-ltb (length (values less s k)) rank h in
       let u = lt-leb (s .room (s .section k)) (used (s .section) (s .contents) (s .section k)) r in

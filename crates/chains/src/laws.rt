@@ -6,5 +6,4 @@ use keys::Key;
 /// four answers about keys are the nearest keys with values, for any kind of key and value.
 pub fn contents_obey_their_laws<K: Key, V>()
     ensures { λ _. ⌜ ContentsLaws (K·Key .less) V ⌝ }
-{
-}
+{}

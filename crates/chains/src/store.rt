@@ -16,6 +16,7 @@ use keys::Key;
 /// each section has a room of at most 32,768 values; sections and rooms never change.
 pub trait ChainStore {
     type Key: Key;
+
     type Value: Copy;
 
     ghost state: { Self → StoreState Self·Key Self·Value };

@@ -20,7 +20,7 @@ pub record Turns (bytes : List ℕ) (i number : ℕ) (rest : List ℕ) : Type 0 
   pub left : rest ≡ drop i bytes
 
 pub one-more : (bytes : List ℕ) (i number first : ℕ) (rest after : List ℕ) → Turns bytes i number rest → first < 256 → first ≡ getD rest 0 0 → after ≡ drop 1 rest
-  → Turns bytes (i + 1) (number * 256 + first) after
+    → Turns bytes (i + 1) (number * 256 + first) after
 one-more bytes i number first rest after s h f m =
     let is : getD rest 0 0 ≡ getD bytes i 0 = rw (s .left, getD-drop, add-zero) in
     rw add-one record {

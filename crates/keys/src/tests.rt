@@ -8,8 +8,15 @@ use std::test::*;
 fn letters_of_short_and_long_answers() -> Result<(), Fail> {
     check_eq(Letters.transform(b"").number, 0)?;
     check_eq(Letters.transform(b"A").number, 4_683_743_612_465_315_840)?;
-    check_eq(Letters.transform(b"CROSSWORDS").number, Letters.transform(b"CROSSWOR").number)?;
-    check(Letters.transform(b"ARIA").is_less(&Letters.transform(b"OBOE")))
+    check_eq(
+        Letters.transform(b"CROSSWORDS").number,
+        Letters.transform(b"CROSSWOR").number,
+    )?;
+    check(
+        Letters
+            .transform(b"ARIA")
+            .is_less(&Letters.transform(b"OBOE")),
+    )
 }
 
 #[test]
@@ -21,5 +28,9 @@ fn length_of_short_and_long_answers() -> Result<(), Fail> {
     check_eq(Length.transform(b"ARIA"), aria)?;
     check_eq(Length.transform(b"\xC3\x89T\xC3\x89").length, 5)?;
     check_eq(Length.transform(&[65; 300]).length, 255)?;
-    check(Length.transform(b"OBOE").is_less(&Length.transform(b"ARIAS")))
+    check(
+        Length
+            .transform(b"OBOE")
+            .is_less(&Length.transform(b"ARIAS")),
+    )
 }

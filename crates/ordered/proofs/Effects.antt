@@ -43,7 +43,7 @@ module _ {K V : Type 0} {less : K → K → Bool} (o : StrictOrder less) where
   -- ---- which places are a key's
 
   pub present : (es : List (Cell K V)) (k : K) (rank : ℕ) (d : Cell K V) → Sorted less es → smaller less es k + rank < length es → less k (getD es (smaller less es k + rank) d .key) ≡ false
-    → rank < length (sequence less (held less es) k)
+      → rank < length (sequence less (held less es) k)
   present es k rank d s lt f =
       let b = stretch es k in
       ⊎-elim
@@ -52,23 +52,23 @@ module _ {K V : Type 0} {less : K → K → Bool} (o : StrictOrder less) where
       (cases-lt rank (length (sequence less (held less es) k)))
 
   pub absent : (es : List (Cell K V)) (k : K) (rank : ℕ) (d : Cell K V) → Sorted less es → less k (getD es (smaller less es k + rank) d .key) ≡ true
-    → length (sequence less (held less es) k) ≤ rank
+      → length (sequence less (held less es) k) ≤ rank
   absent es k rank d s t =
       let b = stretch es k in
       ⊎-elim
       (λ h. let q = key-at o es k (smaller less es k + rank) d s (omega arith) (omega arith) in
-        absurd (both-ways (less k k) (o .irreflexive k) (sym (ap (λ x. less k x) q) ∙ t)))
+      absurd (both-ways (less k k) (o .irreflexive k) (sym (ap (λ x. less k x) q) ∙ t)))
       (λ h. h)
       (cases-lt rank (length (sequence less (held less es) k)))
 
   -- ---- what stands at a rank, and what changes there
 
   before-rank : (es : List (Cell K V)) (k : K) (i rank : ℕ) → Sorted less es → i ≡ smaller less es k + rank → rank ≤ length (sequence less (held less es) k)
-    → length (values-under less (λ e. e .key) (λ e. e .value) (take i es) k) ≡ rank
+      → length (values-under less (λ e. e .key) (λ e. e .value) (take i es) k) ≡ rank
   before-rank es k i rank s a le = let b = stretch es k in let f = before-place o es k i s (omega arith) (omega arith) in omega arith
 
   pub value-at : (es : List (Cell K V)) (k : K) (i rank : ℕ) (d : Cell K V) → Sorted less es → i ≡ smaller less es k + rank → rank < length (sequence less (held less es) k)
-    → nth (sequence less (held less es) k) rank ≡ Some (getD es i d .value)
+      → nth (sequence less (held less es) k) rank ≡ Some (getD es i d .value)
   value-at es k i rank d s a lt =
       let b = stretch es k in
       let n = not-greater-le es k in
@@ -77,7 +77,7 @@ module _ {K V : Type 0} {less : K → K → Bool} (o : StrictOrder less) where
       (entry-nth o (λ e. e .key) (λ e. e .value) (take i es) (getD es i d) (drop (i + 1) es) k rank (key-at o es k i d s (omega arith) (omega arith)) (before-rank es k i rank s a (omega arith)))
 
   pub put-at : (es : List (Cell K V)) (c : Cell K V) (i rank : ℕ) → Sorted less es → i ≡ smaller less es (c .key) + rank → rank ≤ length (sequence less (held less es) (c .key))
-    → held less (inserted es i c) ≡ with-sequence less (held less es) (c .key) (inserted (sequence less (held less es) (c .key)) rank (c .value))
+      → held less (inserted es i c) ≡ with-sequence less (held less es) (c .key) (inserted (sequence less (held less es) (c .key)) rank (c .value))
   put-at es c i rank s a le =
       let P : List (Cell K V) → Type 0 = λ x. held less (inserted es i c) ≡ with-sequence less (held less x) (c .key) (inserted (sequence less (held less x) (c .key)) rank (c .value)) in
       subst P (take-append-drop i es) (entry-put o (λ e. e .key) (λ e. e .value) (take i es) c (drop i es) (c .key) rank refl (before-rank es (c .key) i rank s a le))
@@ -86,7 +86,7 @@ module _ {K V : Type 0} {less : K → K → Bool} (o : StrictOrder less) where
   put-sorted es c i rank s a le = let b = stretch es (c .key) in sorted-put o es i c s (omega arith) (omega arith)
 
   pub take-at : (es : List (Cell K V)) (k : K) (i rank : ℕ) (d : Cell K V) → Sorted less es → i ≡ smaller less es k + rank → rank < length (sequence less (held less es) k)
-    → held less (removed es i) ≡ with-sequence less (held less es) k (removed (sequence less (held less es) k) rank)
+      → held less (removed es i) ≡ with-sequence less (held less es) k (removed (sequence less (held less es) k) rank)
   take-at es k i rank d s a lt =
       let b = stretch es k in
       let n = not-greater-le es k in
@@ -96,7 +96,7 @@ module _ {K V : Type 0} {less : K → K → Bool} (o : StrictOrder less) where
       subst P (split-at es i d (omega arith)) (ap (λ (m : ℕ). held less (take i es ++ drop m es)) (sym e) ∙ q)
 
   pub set-at : (es : List (Cell K V)) (c : Cell K V) (i rank : ℕ) → Sorted less es → i ≡ smaller less es (c .key) + rank → rank < length (sequence less (held less es) (c .key))
-    → held less (set es i c) ≡ with-sequence less (held less es) (c .key) (set (sequence less (held less es) (c .key)) rank (c .value))
+      → held less (set es i c) ≡ with-sequence less (held less es) (c .key) (set (sequence less (held less es) (c .key)) rank (c .value))
   set-at es c i rank s a lt =
       let b = stretch es (c .key) in
       let n = not-greater-le es (c .key) in

@@ -1,3 +1,4 @@
 pub mod Sorted
 pub mod Effects
 pub mod Neighbours
+pub mod Calls

@@ -33,7 +33,7 @@ module _ {K V : Type 0} {less : K → K → Bool} (o : StrictOrder less) where
   some-under (e ∷ es) (suc i) d h =
       let ih = some-under es i d (omega arith) in
       elim (same less (e .key) (getD es i d .key)) as (λ b. 0 < length (cond b (e .value ∷ values-under less (λ e. e .key) (λ e. e .value) es (getD es i d .key)) (values-under less (λ e. e .key) (λ e. e .value) es (getD es i d .key))))
-        [ true ↦ omega arith | false ↦ ih ]
+      [ true ↦ omega arith | false ↦ ih ]
 
   has-values : (es : List (Cell K V)) (i : ℕ) (d : Cell K V) → i < length es → HasValues less (held less es) (getD es i d .key)
   has-values es i d h = let e = contents-sequence o (λ e. e .key) (λ e. e .value) es (getD es i d .key) in rw e (some-under es i d h)
@@ -61,7 +61,7 @@ module _ {K V : Type 0} {less : K → K → Bool} (o : StrictOrder less) where
   nth-some es i d h = ap keyed (nth-getD es i d h)
 
   least-at : (es : List (Cell K V)) (Q : K → Type 0) (i : ℕ) (d : Cell K V) → Sorted less es → i < length es → Q (getD es i d .key)
-    → ((k : K) → Q k → HasValues less (held less es) k) → ((j : ℕ) → j < i → Q (getD es j d .key) → ⊥) → Least less Q (keyed (nth es i))
+      → ((k : K) → Q k → HasValues less (held less es) k) → ((j : ℕ) → j < i → Q (getD es j d .key) → ⊥) → Least less Q (keyed (nth es i))
   least-at es Q i d s h q values none =
       let e = nth-some es i d h in
       rw e (q, λ k p. go k p (place es k (values k p)))
@@ -74,7 +74,7 @@ module _ {K V : Type 0} {less : K → K → Bool} (o : StrictOrder less) where
           (cases-lt (v .at) i)
 
   greatest-at : (es : List (Cell K V)) (Q : K → Type 0) (i : ℕ) (d : Cell K V) → Sorted less es → i < length es → Q (getD es i d .key)
-    → ((k : K) → Q k → HasValues less (held less es) k) → ((j : ℕ) → i < j → j < length es → Q (getD es j d .key) → ⊥) → Greatest less Q (keyed (nth es i))
+      → ((k : K) → Q k → HasValues less (held less es) k) → ((j : ℕ) → i < j → j < length es → Q (getD es j d .key) → ⊥) → Greatest less Q (keyed (nth es i))
   greatest-at es Q i d s h q values none =
       let e = nth-some es i d h in
       rw e (q, λ k p. go k p (place es k (values k p)))
@@ -141,9 +141,9 @@ module _ {K V : Type 0} {less : K → K → Bool} (o : StrictOrder less) where
       let w = stretch-within o (d ∷ es) k in
       least-unique (λ x y p q. o .connected x y q p) (Lower (d ∷ es) k) _ _
       (greatest-at (d ∷ es) (Lower (d ∷ es) k) i d s (omega arith)
-        (has-values (d ∷ es) i d (omega arith), ahead-place o (d ∷ es) k i d s (omega arith))
-        (λ j p. p .0)
-        (λ j lt h p. both-ways (less (getD (d ∷ es) j d .key) k) (from-place o (d ∷ es) k j d s (omega arith) h) (p .1)))
+      (has-values (d ∷ es) i d (omega arith), ahead-place o (d ∷ es) k i d s (omega arith))
+      (λ j p. p .0)
+      (λ j lt h p. both-ways (less (getD (d ∷ es) j d .key) k) (from-place o (d ∷ es) k j d s (omega arith) h) (p .1)))
       (below-greatest o (held less (d ∷ es)) k (contents-ascending o (λ e. e .key) (λ e. e .value) (d ∷ es)))
 
   pub below-none : (es : List (Cell K V)) (k : K) → Sorted less es → smaller less es k ≡ 0 → None ≡ key-below less (held less es) k

@@ -29,15 +29,15 @@ module _ {K : Type 0} {less : K → K → Bool} (o : StrictOrder less) where
 module _ {K V : Type 0} {less : K → K → Bool} (o : StrictOrder less) where
   -- an entry's key is smaller than k, k itself, or greater
   pub bounds : (es : List (Cell K V)) (k : K)
-    → smaller less es k + length (values-under less (λ e. e .key) (λ e. e .value) es k) ≡ not-greater less es k
+      → smaller less es k + length (values-under less (λ e. e .key) (λ e. e .value) es k) ≡ not-greater less es k
   bounds [] k = refl
   bounds (e ∷ es) k =
       let ih = bounds es k in
       ⊎-elim
       (λ w. let t = w .0 in let f = w .1 in rw (t, f) (omega arith))
       (⊎-elim
-        (λ w. let f = w .0 in let t = w .1 in rw (f, t) ih)
-        (λ q. let i = o .irreflexive k in let f : less (e .key) k ≡ false = cc in let g : less k (e .key) ≡ false = cc in rw (f, g) (omega arith)))
+      (λ w. let f = w .0 in let t = w .1 in rw (f, t) ih)
+      (λ q. let i = o .irreflexive k in let f : less (e .key) k ≡ false = cc in let g : less k (e .key) ≡ false = cc in rw (f, g) (omega arith)))
       (trichotomy o (e .key) k)
 
   none-at : (es : List (Cell K V)) (k : K) (i : ℕ) (d : Cell K V) → NoneSmaller less k es → i < length es → less (getD es i d .key) k ≡ false
@@ -64,8 +64,8 @@ module _ {K V : Type 0} {less : K → K → Bool} (o : StrictOrder less) where
       let n = sumBy-cons (λ (x : Cell K V). cond (less (x .key) k) 1 0) e es in
       let ih = smaller-count es k in
       elim (less (e .key) k) as (λ b. countBy (λ (x : Cell K V). less (x .key) k) (e ∷ es) ≡ cond b 1 0 + countBy (λ (x : Cell K V). less (x .key) k) es
-        → countBy (λ (x : Cell K V). less (x .key) k) (e ∷ es) ≡ cond b (1 + smaller less es k) (smaller less es k))
-        [ true ↦ λ m. omega (arith, m) | false ↦ λ m. omega (arith, m) ] n
+      → countBy (λ (x : Cell K V). less (x .key) k) (e ∷ es) ≡ cond b (1 + smaller less es k) (smaller less es k))
+      [ true ↦ λ m. omega (arith, m) | false ↦ λ m. omega (arith, m) ] n
 
   pub not-greater-count : (es : List (Cell K V)) (k : K) → countBy (λ (e : Cell K V). not (less k (e .key))) es ≡ not-greater less es k
   not-greater-count [] k = refl
@@ -73,8 +73,8 @@ module _ {K V : Type 0} {less : K → K → Bool} (o : StrictOrder less) where
       let n = sumBy-cons (λ (x : Cell K V). cond (not (less k (x .key))) 1 0) e es in
       let ih = not-greater-count es k in
       elim (less k (e .key)) as (λ b. countBy (λ (x : Cell K V). not (less k (x .key))) (e ∷ es) ≡ cond (not b) 1 0 + countBy (λ (x : Cell K V). not (less k (x .key))) es
-        → countBy (λ (x : Cell K V). not (less k (x .key))) (e ∷ es) ≡ cond b (not-greater less es k) (1 + not-greater less es k))
-        [ true ↦ λ m. omega (arith, m) | false ↦ λ m. omega (arith, m) ] n
+      → countBy (λ (x : Cell K V). not (less k (x .key))) (e ∷ es) ≡ cond b (not-greater less es k) (1 + not-greater less es k))
+      [ true ↦ λ m. omega (arith, m) | false ↦ λ m. omega (arith, m) ] n
 
   -- ---- both tests of a search part the entries
 
@@ -85,7 +85,7 @@ module _ {K V : Type 0} {less : K → K → Bool} (o : StrictOrder less) where
   not-greater-parts es k s i j d le lt t =
       ⊎-elim
       (λ (u : less k (getD es i d .key) ≡ true). let v = greater-of o (getD es i d .key) (getD es j d .key) k (sorted-at es i j d s le lt) u in
-        absurd (both-ways (less k (getD es j d .key)) (not-true (less k (getD es j d .key)) t) v))
+      absurd (both-ways (less k (getD es j d .key)) (not-true (less k (getD es j d .key)) t) v))
       (λ (f : less k (getD es i d .key) ≡ false). rw f)
       (cases-bool (less k (getD es i d .key)))
     where
@@ -114,21 +114,21 @@ module _ {K V : Type 0} {less : K → K → Bool} (o : StrictOrder less) where
 
   -- before a place among k's entries there are as many values of k as the place lies past the first of them
   pub before-place : (es : List (Cell K V)) (k : K) (i : ℕ) → Sorted less es → smaller less es k ≤ i → i ≤ not-greater less es k
-    → smaller less es k + length (values-under less (λ e. e .key) (λ e. e .value) (take i es) k) ≡ i
+      → smaller less es k + length (values-under less (λ e. e .key) (λ e. e .value) (take i es) k) ≡ i
   before-place [] k zero s a b = refl
   before-place [] k (suc i) s a b = absurd (omega arith)
   before-place (e ∷ es) k zero s a b = omega arith
   before-place (e ∷ es) k (suc i) s a b =
       ⊎-elim
       (λ w. let t = w .0 in let f = w .1 in
-        let x : 1 + smaller less es k ≤ suc i = rw t at a in let y : suc i ≤ 1 + not-greater less es k = rw f at b in
-        let ih = before-place es k i (s .1) (omega arith) (omega arith) in rw t (omega arith))
+      let x : 1 + smaller less es k ≤ suc i = rw t at a in let y : suc i ≤ 1 + not-greater less es k = rw f at b in
+      let ih = before-place es k i (s .1) (omega arith) (omega arith) in rw t (omega arith))
       (⊎-elim
-        (λ w. let n = none-here e es k s (w .1) in absurd (omega (arith, n)))
-        (λ q. let ir = o .irreflexive k in let f : less (e .key) k ≡ false = cc in let g : less k (e .key) ≡ false = cc in
-          let z = none-behind e es k s f in let y : suc i ≤ 1 + not-greater less es k = rw g at b in
-          let ih : smaller less es k + length (values-under less (λ e. e .key) (λ e. e .value) (take i es) k) ≡ i = before-place es k i (s .1) (omega arith) (omega arith) in
-          rw (f, g) (omega arith)))
+      (λ w. let n = none-here e es k s (w .1) in absurd (omega (arith, n)))
+      (λ q. let ir = o .irreflexive k in let f : less (e .key) k ≡ false = cc in let g : less k (e .key) ≡ false = cc in
+      let z = none-behind e es k s f in let y : suc i ≤ 1 + not-greater less es k = rw g at b in
+      let ih : smaller less es k + length (values-under less (λ e. e .key) (λ e. e .value) (take i es) k) ≡ i = before-place es k i (s .1) (omega arith) (omega arith) in
+      rw (f, g) (omega arith)))
       (trichotomy o (e .key) k)
 
   pub key-at : (es : List (Cell K V)) (k : K) (i : ℕ) (d : Cell K V) → Sorted less es → smaller less es k ≤ i → i < not-greater less es k → getD es i d .key ≡ k
@@ -141,13 +141,13 @@ module _ {K V : Type 0} {less : K → K → Bool} (o : StrictOrder less) where
   key-at (e ∷ es) k (suc i) d s a b =
       ⊎-elim
       (λ w. let t = w .0 in let f = w .1 in
-        let x : 1 + smaller less es k ≤ suc i = rw t at a in let y : suc i < 1 + not-greater less es k = rw f at b in
-        key-at es k i d (s .1) (omega arith) (omega arith))
+      let x : 1 + smaller less es k ≤ suc i = rw t at a in let y : suc i < 1 + not-greater less es k = rw f at b in
+      key-at es k i d (s .1) (omega arith) (omega arith))
       (⊎-elim
-        (λ w. let n = none-here e es k s (w .1) in absurd (omega (arith, n)))
-        (λ q. let ir = o .irreflexive k in let f : less (e .key) k ≡ false = cc in let g : less k (e .key) ≡ false = cc in
-          let z = none-behind e es k s f in let y : suc i < 1 + not-greater less es k = rw g at b in
-          key-at es k i d (s .1) (omega arith) (omega arith)))
+      (λ w. let n = none-here e es k s (w .1) in absurd (omega (arith, n)))
+      (λ q. let ir = o .irreflexive k in let f : less (e .key) k ≡ false = cc in let g : less k (e .key) ≡ false = cc in
+      let z = none-behind e es k s f in let y : suc i < 1 + not-greater less es k = rw g at b in
+      key-at es k i d (s .1) (omega arith) (omega arith)))
       (trichotomy o (e .key) k)
 
   -- an entry behind those of k is greater
@@ -225,13 +225,13 @@ module _ {K V : Type 0} {less : K → K → Bool} (o : StrictOrder less) where
   sorted-put (e ∷ es) (suc i) c s a b =
       ⊎-elim
       (λ w. let t = w .0 in let f = w .1 in
-        let x : 1 + smaller less es (c .key) ≤ suc i = rw t at a in let y : suc i ≤ 1 + not-greater less es (c .key) = rw f at b in
-        (none-put es (e .key) i c (s .0) f, sorted-put es i c (s .1) (omega arith) (omega arith)))
+      let x : 1 + smaller less es (c .key) ≤ suc i = rw t at a in let y : suc i ≤ 1 + not-greater less es (c .key) = rw f at b in
+      (none-put es (e .key) i c (s .0) f, sorted-put es i c (s .1) (omega arith) (omega arith)))
       (⊎-elim
-        (λ w. let n = none-here e es (c .key) s (w .1) in absurd (omega (arith, n)))
-        (λ q. let ir = o .irreflexive (c .key) in let f : less (e .key) (c .key) ≡ false = cc in let g : less (c .key) (e .key) ≡ false = cc in
-          let z = none-behind e es (c .key) s f in let y : suc i ≤ 1 + not-greater less es (c .key) = rw g at b in
-          (none-put es (e .key) i c (s .0) g, sorted-put es i c (s .1) (omega arith) (omega arith))))
+      (λ w. let n = none-here e es (c .key) s (w .1) in absurd (omega (arith, n)))
+      (λ q. let ir = o .irreflexive (c .key) in let f : less (e .key) (c .key) ≡ false = cc in let g : less (c .key) (e .key) ≡ false = cc in
+      let z = none-behind e es (c .key) s f in let y : suc i ≤ 1 + not-greater less es (c .key) = rw g at b in
+      (none-put es (e .key) i c (s .0) g, sorted-put es i c (s .1) (omega arith) (omega arith))))
       (trichotomy o (e .key) (c .key))
 
   none-take : (es : List (Cell K V)) (x : K) (i : ℕ) → NoneSmaller less x es → NoneSmaller less x (take i es ++ drop (suc i) es)

@@ -1,2 +1,3 @@
 pub mod Sorted
 pub mod Keyed
+pub mod Store

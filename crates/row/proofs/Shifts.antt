@@ -9,7 +9,8 @@ use lib.Seq.{take-append-add, drop-append-add, paste}
 use borrow.Rule.Slice.PartMut.{putMid}
 use Rattle.std.specs.shelf.Lists.{inserted}
 use Rattle.std.proofs.shelf.Lists.{take-at, drop-at, set-at, getD-at, append-assoc, append-nil, take-append-drop, take-append-le, drop-append-le, drop-more, take-more, drop-drop, length-take-le, length-drop, length-append, length-take, nil-from-length, take-all, drop-all, take-rest, set-split, set-set, set-getD, getD-set-same, drop-set, take-set, length-set}
-use Rattle.row.proofs.Rings.{length-ring, length-putMid, inserted-mid}
+use Rattle.row.proofs.Lists.{inserted-mid, length-putMid, put-back}
+use Rattle.row.proofs.Rings.{length-ring}
 use Rattle.row.specs.Rings.{ring}
 
 module _ {X : Type 0} where
@@ -92,9 +93,6 @@ module _ {X : Type 0} where
       let s : putMid a k z u ≡ (c ++ (u ++ f)) ++ q = ap (λ (v : List X). c ++ (u ++ v)) w ∙ ap (λ (v : List X). c ++ v) (sym (append-assoc u f q)) ∙ sym (append-assoc c (u ++ f) q) in
       let l : length (c ++ (u ++ f)) ≡ h = simp length-append (omega arith) in
       ap (λ (v : List X). ring h v) s ∙ ring-at h (c ++ (u ++ f)) q l ∙ sym (append-assoc q c (u ++ f))
-
-  put-back : (z : List X) (a k : ℕ) → putMid a k z (take k (drop a z)) ≡ z
-  put-back z a k = ap (λ (v : List X). take a z ++ v) (take-append-drop k (drop a z)) ∙ take-append-drop a z
 
   pub near-in : (z : List X) (h to a k p : ℕ) (x y : X) (u : List X) → a ≡ h + to → a + k ≤ length z → p ≡ to + k → x ∷ take k (drop a z) ≡ u ++ y ∷ [] → inserted (ring h z) to x ≡ inserted (ring h (putMid a k z u)) p y
   near-in z h to a k p x y u e le q f =

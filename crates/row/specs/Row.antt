@@ -1,6 +1,6 @@
 -- What a row holds.
 use mathlib.Core.List.{List}
-use Prim.Native.Nat.{ℕ}
+use Prim.Native.Nat.{ℕ, min}
 use lib.ListN.{take, drop}
 use base.Fml.{GName}
 use denote.Ref.{name}
@@ -13,7 +13,7 @@ room r = room-of (r .cells .now)
 
 -- the items in their order
 unfoldable pub items : {T : Type 0} → Row T → List T
-items r = first-items 256 (r .heads) (take (room-of (r .cells .now)) (r .cells .now)) (r .len)
+items r = first-items 256 (r .heads) (take (room-of (r .cells .now)) (r .cells .now)) (min (r .len) (room-of (r .cells .now)))
 
 -- which cells were lent, and what those past the room hold
 unfoldable pub outside : {T : Type 0} → Row T → GName × List T

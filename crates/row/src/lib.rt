@@ -4,6 +4,8 @@ mod blocks;
 mod ring;
 mod row;
 mod search;
+#[cfg(test)]
+mod tests;
 
 pub use row::Row;
 pub use search::Predicate;

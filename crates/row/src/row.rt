@@ -1,15 +1,14 @@
-// The row and its invariant.
-ghost use Prim.Native.Nat.{_≤_};
-ghost use Rattle.row.specs.Rings.{room-of, WellFormed};
-
+// The row of cells.
 mod list;
+mod unchecked;
 
 /// A list of items in cells that are lent, of which it uses the first 32,768 at most.
+///
+/// It is a plain record: a length past the room counts as the room, and a head past its block as the
+/// block's first cell, so that any record means some list, and no call has to trust an invariant.
 #[derive(Drop)]
 pub struct Row<'a, T> {
     cells: &'a mut [T],
     heads: [u16; 128],
     len: usize,
-    ghost within: { len ≤ room-of (cells .now) },
-    ghost turned: { WellFormed 256 heads (room-of (cells .now)) },
 }

@@ -5,9 +5,10 @@ ghost use Prim.Native.Nat.{ℕ, _+_, _*_, _^_, _<_, _≤_};
 ghost use lib.ListN.{length, getD};
 ghost use Rattle.std.specs.shelf.Lists.{countBy};
 ghost use Rattle.row.specs.Partition.{Partitioned, PartitionedTo, Window};
-ghost use Rattle.row.specs.Rings.{ring, rings, first-items, WellFormed};
+ghost use Rattle.row.specs.Rings.{ring, rings, first-items, Headed};
 use crate::blocks::BLOCK;
 use crate::blocks::block_end;
+use crate::blocks::head_of;
 
 /// A question that splits a list in two: the items that satisfy it, and behind them those that do not.
 pub trait Predicate<T> {
@@ -26,7 +27,7 @@ pub(crate) fn partition_point<T: Copy, P: Predicate<T>>(
     p: &P,
 ) -> usize
     requires room { ⌜ len ≤ length (now cells) ⌝ }
-    requires heads { ⌜ WellFormed 256 (now heads) (length (now cells)) ⌝ }
+    requires heads { ⌜ Headed 256 (now heads) (length (now cells)) ⌝ }
     ensures within { λ r. ⌜ r ≤ len ⌝ }
     ensures point { λ r. ⌜ (Partitioned (P·Predicate .holds (now (p .entry))) (first-items 256 (now (heads .entry)) (now (cells .entry)) len) → r ≡ countBy (P·Predicate .holds (now (p .entry))) (first-items 256 (now (heads .entry)) (now (cells .entry)) len)) ⌝ }
 {
@@ -37,14 +38,15 @@ pub(crate) fn partition_point<T: Copy, P: Predicate<T>>(
     let start = b * BLOCK;
     let end = block_end(cells.len(), start);
     let stop = if len < end { len } else { end };
-    start + ring_partition_point(&cells[start..end], heads[b] as usize, stop - start, p)
+    let head = head_of(heads, b, end - start);
+    start + ring_partition_point(&cells[start..end], head, stop - start, p)
 }
 
 // The block in which the items that satisfy `p` end.
 fn find_block<T: Copy, P: Predicate<T>>(cells: &[T], heads: &[u16], len: usize, p: &P) -> usize
     requires some { ⌜ 0 < len ⌝ }
     requires room { ⌜ len ≤ length (now cells) ⌝ }
-    requires heads { ⌜ WellFormed 256 (now heads) (length (now cells)) ⌝ }
+    requires heads { ⌜ Headed 256 (now heads) (length (now cells)) ⌝ }
     ensures within { λ r. ⌜ r * 256 < len ⌝ }
     ensures window { λ r. ⌜ (PartitionedTo (P·Predicate .holds (now (p .entry))) (rings 256 (now (heads .entry)) (now (cells .entry))) len → Window (P·Predicate .holds (now (p .entry))) (rings 256 (now (heads .entry)) (now (cells .entry))) len (r * 256) ((r + 1) * 256)) ⌝ }
 {
@@ -95,10 +97,12 @@ fn ring_partition_point<T: Copy, P: Predicate<T>>(
 // The first item of a block.
 fn block_first<T: Copy>(cells: &[T], heads: &[u16], b: usize) -> T
     requires within { ⌜ b * 256 < length (now cells) ⌝ }
-    requires heads { ⌜ WellFormed 256 (now heads) (length (now cells)) ⌝ }
+    requires heads { ⌜ Headed 256 (now heads) (length (now cells)) ⌝ }
     ensures { λ r. ⌜ ((d : T) → r ≡ getD (rings 256 (now (heads .entry)) (now (cells .entry))) (b * 256) d) ⌝ }
 {
-    cells[b * BLOCK + heads[b] as usize]
+    let start = b * BLOCK;
+    let size = block_end(cells.len(), start) - start;
+    cells[start + head_of(heads, b, size)]
 }
 
 // The item at place `i` of a ring.

@@ -12,12 +12,18 @@ ghost use Rattle.std.specs.shelf.Maps.{nth};
 ghost use Rattle.row.specs.Partition.{Partitioned};
 ghost use Rattle.row.specs.Row.{items, room, outside};
 use super::Row;
-use crate::blocks;
 use crate::search;
 use crate::search::Predicate;
 
 /// The most items that a row holds, however many cells are lent.
 const MAX_ROOM: usize = 32_768;
+
+// How many of `n` cells a row uses.
+fn room_for(n: usize) -> usize
+    ensures { λ r. ⌜ r ≡ min n 32768 ⌝ }
+{
+    n.min(MAX_ROOM)
+}
 
 impl<'a, T: Copy> Row<'a, T> {
     /// An empty row over `cells`, whose contents do not matter.
@@ -38,26 +44,25 @@ impl<'a, T: Copy> Row<'a, T> {
         ensures len { λ r. ⌜ r ≡ length (items (now (self .entry))) ⌝ }
         ensures fits { λ r. ⌜ r ≤ room (now (self .entry)) ⌝ }
     {
-        self.len
+        self.len.min(self.capacity())
     }
 
     /// How many items it can hold.
     pub fn capacity(&self) -> usize
         ensures { λ r. ⌜ r ≡ room (now (self .entry)) ⌝ }
     {
-        self.cells.len().min(MAX_ROOM)
+        room_for(self.cells.len())
     }
 
     /// The item at place `i`, if there is one.
     pub fn get(&self, i: usize) -> Option<T>
         ensures { λ r. ⌜ r ≡ nth (items (now (self .entry))) i ⌝ }
     {
-        if self.len <= i {
-            return None;
+        if i < self.len() {
+            Some(self.get_unchecked(i))
+        } else {
+            None
         }
-        let room = self.capacity();
-        let Row { cells, heads, .. } = self;
-        Some(blocks::read(&cells[0..room], heads, i))
     }
 
     /// How many items satisfy `p`, if those that do all stand before those that do not.
@@ -65,9 +70,10 @@ impl<'a, T: Copy> Row<'a, T> {
         ensures within { λ r. ⌜ r ≤ length (items (now (self .entry))) ⌝ }
         ensures point { λ r. ⌜ (Partitioned (P·Predicate .holds (now (p .entry))) (items (now (self .entry))) → r ≡ countBy (P·Predicate .holds (now (p .entry))) (items (now (self .entry)))) ⌝ }
     {
+        let len = self.len();
         let room = self.capacity();
-        let Row { cells, heads, len } = self;
-        search::partition_point(&cells[0..room], heads, *len, p)
+        let Row { cells, heads, .. } = self;
+        search::partition_point(&cells[0..room], heads, len, p)
     }
 
     /// Lets all items go.
@@ -76,7 +82,7 @@ impl<'a, T: Copy> Row<'a, T> {
         ensures room { λ _. ⌜ room (now (self .exit)) ≡ room (now (self .entry)) ⌝ }
         ensures outside { λ _. ⌜ outside (now (self .exit)) ≡ outside (now (self .entry)) ⌝ }
     {
-        self.len = 0;
+        self.truncate(0);
     }
 
     /// Puts `x` at place `i`, and moves the items from there on one place up; false if `i` lies past the end, or no room is left.
@@ -87,13 +93,10 @@ impl<'a, T: Copy> Row<'a, T> {
         ensures room { λ _. ⌜ room (now (self .exit)) ≡ room (now (self .entry)) ⌝ }
         ensures outside { λ _. ⌜ outside (now (self .exit)) ≡ outside (now (self .entry)) ⌝ }
     {
-        let room = self.capacity();
-        if self.len < i || self.len == room {
+        if self.len() < i || self.len() == self.capacity() {
             return false;
         }
-        let Row { cells, heads, len } = self;
-        blocks::insert(&mut cells[0..room], heads, *len, i, x);
-        *len += 1;
+        self.insert_unchecked(i, x);
         true
     }
 
@@ -105,12 +108,10 @@ impl<'a, T: Copy> Row<'a, T> {
         ensures room { λ _. ⌜ room (now (self .exit)) ≡ room (now (self .entry)) ⌝ }
         ensures outside { λ _. ⌜ outside (now (self .exit)) ≡ outside (now (self .entry)) ⌝ }
     {
-        if self.len <= i {
+        if self.len() <= i {
             return false;
         }
-        let room = self.capacity();
-        let Row { cells, heads, .. } = self;
-        blocks::write(&mut cells[0..room], heads, i, x);
+        self.set_unchecked(i, x);
         true
     }
 
@@ -122,13 +123,9 @@ impl<'a, T: Copy> Row<'a, T> {
         ensures room { λ _. ⌜ room (now (self .exit)) ≡ room (now (self .entry)) ⌝ }
         ensures outside { λ _. ⌜ outside (now (self .exit)) ≡ outside (now (self .entry)) ⌝ }
     {
-        if self.len <= i {
+        if self.len() <= i {
             return None;
         }
-        let room = self.capacity();
-        let Row { cells, heads, len } = self;
-        let out = blocks::remove(&mut cells[0..room], heads, *len, i);
-        *len -= 1;
-        Some(out)
+        Some(self.remove_unchecked(i))
     }
 }

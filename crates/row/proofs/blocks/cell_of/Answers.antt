@@ -1,27 +1,31 @@
-use mathlib.Core.Path.{_≡_}
-use mathlib.Core.Logic.{_⊎_, inl, inr}
-use Prim.Native.Nat.{_+_, _-_, _*_, _/_, _%_, _<_, _≤_}
+use mathlib.Core.Logic.{inl, inr}
+use Prim.Native.Nat.{_+_, _-_, _*_, _/_, _%_}
 use native.Mathlib.Omega.{arith}
-use lib.ListN.{length, getD}
-use Rattle.row.proofs.Rings.{read, written}
+use Rattle.row.specs.Rings.{head-in}
+use Rattle.row.proofs.Heads.{head-below}
+use Rattle.row.proofs.Rings.{InRing, in-ring-below, read, written}
 use Rattle.row.proofs.blocks.cell_of.Needs as need
 use Rattle.row.proofs.blocks.cell_of.Needs.{then-turned-size, else-turned-size}
 
-pub index-heads-block : need.index-heads-block
-index-heads-block g c = c .pre .heads (c .args .i / 256) (omega arith) .0
+pub head-of-requires : need.head-of-requires
+head-of-requires g c κs = c .pre .heads (c .args .i / 256) (omega arith)
 
 pub returns : need.returns
 returns g c =
-    let b = c .args .i / 256 in
+    let hs = c .args .heads .now in
+    let cs = c .args .cells .now in
+    let i = c .args .i in
+    let b = i / 256 in
     let e = c .block-end .result in
     let k = e - b * 256 in
-    let t = getD (c .args .heads .now) b 0 + c .args .i % 256 in
+    let h = head-in hs b k in
     let at = c .if-turned-size .at in
-    let s = c .pre .heads b (omega arith) in
-    let way : ((t < k) × (at ≡ t)) ⊎ ((k ≤ t) × (at ≡ t - k)) =
-    elim (c .if-turned-size .came) [ then-turned-size w ↦ inl (w .if-turned-size .taken, w .at-is) | else-turned-size w ↦ inr (w .if-turned-size .left, w .at-is) ] in
+    let hb = head-below hs b k (omega arith) in
+    let way : InRing h (i % 256) k at =
+    elim (c .if-turned-size .came) [ then-turned-size w ↦ inl (omega (arith, w .if-turned-size .taken), omega (arith, w .at-is)) | else-turned-size w ↦ inr (omega (arith, w .if-turned-size .left), omega (arith, w .at-is)) ] in
+    let below = in-ring-below h (i % 256) k at (omega arith) (omega arith) way in
     record {
-      within = elim way [ inl v ↦ omega (arith, v .0, v .1) | inr v ↦ omega (arith, v .0, v .1) ];
-      read = λ d. read 256 (c .args .heads .now) (c .args .cells .now) b e (c .pre .heads) (omega arith) (c .block-end .ensures) (c .args .i % 256) at (c .args .i) d (omega arith) way (omega arith);
-      write = λ x. written 256 (c .args .heads .now) (c .args .cells .now) b e (c .pre .heads) (omega arith) (c .block-end .ensures) (c .args .i % 256) at (c .args .i) x (omega arith) way (omega arith);
+      within = omega arith;
+      read = λ d. read 256 hs cs b e (c .pre .heads) (omega arith) (c .block-end .ensures) (i % 256) at i d (omega arith) way (omega arith);
+      write = λ x. written 256 hs cs b e (c .pre .heads) (omega arith) (c .block-end .ensures) (i % 256) at i x (omega arith) way (omega arith);
     }

@@ -4,19 +4,22 @@ use native.Mathlib.Omega.{arith}
 use lib.ListN.{length, set, getD, take, drop}
 use borrow.Rule.Slice.PartMut.{putMid}
 use Rattle.std.specs.shelf.Lists.{inserted}
-use Rattle.row.specs.Rings.{rings, WellFormed}
-use Rattle.row.proofs.Rings.{stepped, stepped-same, well-formed-set, length-putMid, length-block, length-all, grown}
+use Rattle.row.specs.Rings.{rings}
+use Rattle.row.proofs.Cascade.{stepped, stepped-same}
+use Rattle.row.proofs.Heads.{headed-set, headed-room, head-below}
+use Rattle.row.proofs.Lists.{grown, length-putMid, length-block}
+use Rattle.row.proofs.Rings.{length-rings}
 use Rattle.row.proofs.blocks.insert.Needs as need
 use Rattle.row.proofs.blocks.insert.Needs.{then-len-end, else-len-end}
 
-pub index-heads-first : need.index-heads-first
-index-heads-first g c = c .pre .heads (c .args .i / 256) (omega arith) .0
+pub head-of-head-requires : need.head-of-head-requires
+head-of-head-requires g c κs = c .pre .heads (c .args .i / 256) (omega arith)
 
 pub insert-shift-carried-requires : need.insert-shift-carried-requires
 insert-shift-carried-requires g c κs =
     let a = c .args .i / 256 * 256 in
     let e = c .block-end-end .result in
-    let s = c .pre .heads (c .args .i / 256) (omega arith) in
+    let hb = head-below (c .args .heads .now) (c .args .i / 256) (e - a) (omega arith) in
     let lb = length-block (c .args .cells .now) a e (omega arith) (omega arith) in
     let st : c .if-len-end .stop ≡ min (c .args .len + 1) e = elim (c .if-len-end .came) [ then-len-end w ↦ omega (arith, w .stop-is) | else-len-end w ↦ omega (arith, w .stop-is) ] in
     record { head = omega arith; forward = omega arith; within = omega arith }
@@ -29,21 +32,21 @@ loop-b-holds g c =
     let lb = length-block (c .args .cells .now) a e (omega arith) (omega arith) in
     let n = length-putMid a (e - a) (c .args .cells .now) z (c .insert-shift-carried .kept .block ∙ lb) (omega arith) in
     let st : c .if-len-end .stop ≡ min (c .args .len + 1) e = elim (c .if-len-end .came) [ then-len-end w ↦ omega (arith, w .stop-is) | else-len-end w ↦ omega (arith, w .stop-is) ] in
-    (subst (λ (v : ℕ). WellFormed 256 (c .args .heads .now) v) (sym n) (c .pre .heads), omega arith, (c .if-len-end .stop, omega arith, omega arith, omega arith, refl))
+    (headed-room 256 (c .args .heads .now) _ _ (sym n) (c .pre .heads), omega arith, (c .if-len-end .stop, omega arith, omega arith, omega arith, refl))
 
-pub index-heads-b : need.index-heads-b
-index-heads-b g c = c .loop-b .inv .0 (c .loop-b .b) (omega arith) .0
+pub head-of-head-requires-in-loop-b : need.head-of-head-requires-in-loop-b
+head-of-head-requires-in-loop-b g c κs = c .loop-b .inv .0 (c .loop-b .b) (omega arith)
 
-pub rotate-in-front-head-requires : need.rotate-in-front-head-requires
-rotate-in-front-head-requires g c κs =
+pub rotate-in-front-turned-requires : need.rotate-in-front-turned-requires
+rotate-in-front-turned-requires g c κs =
     let a = c .loop-b .b * 256 in
     let e = c .block-end-end-in-loop-b .result in
-    let s = c .loop-b .inv .0 (c .loop-b .b) (omega arith) in
+    let hb = head-below (c .loop-b .heads) (c .loop-b .b) (e - a) (omega arith) in
     let lb = length-block (c .loop-b .cells) a e (omega arith) (omega arith) in
     omega arith
 
-pub index-heads-b-in-loop-b : need.index-heads-b-in-loop-b
-index-heads-b-in-loop-b g c = c .loop-b .inv .0 (c .loop-b .b) (omega arith) .0
+pub index-heads-b : need.index-heads-b
+index-heads-b g c = c .loop-b .inv .0 (c .loop-b .b) (omega arith)
 
 pub loop-b-again : need.loop-b-again
 loop-b-again g c =
@@ -52,18 +55,17 @@ loop-b-again g c =
     let e = c .block-end-end-in-loop-b .result in
     let cs = c .loop-b .cells in
     let hs = c .loop-b .heads in
-    let z = c .rotate-in-front-head .last .block in
-    let h = c .rotate-in-front-head .result .0 in
+    let z = c .rotate-in-front-turned .last .block in
+    let h = c .rotate-in-front-turned .result .0 in
     let lb = length-block cs a e (omega arith) (omega arith) in
-    let lz = c .rotate-in-front-head .kept .block in
+    let lz = c .rotate-in-front-turned .kept .block in
     let n = length-putMid a (e - a) cs z (lz ∙ lb) (omega arith) in
-    let hl : h < e - a = omega (arith, c .rotate-in-front-head .ensures .head) in
-    let s = well-formed-set 256 hs (length cs) b h (e - a) (c .loop-b .inv .0) hl (omega arith) (omega arith) in
+    let s = headed-set 256 hs (length cs) b h (c .loop-b .inv .0) in
     let q = c .loop-b .inv .2 in
     let at : q .0 ≡ a + 0 = omega arith in
-    let p = stepped 256 hs cs b e (c .loop-b .inv .0) (omega arith) (c .block-end-end-in-loop-b .ensures) h 0 (length (take (e - a) (drop a cs))) (q .0) e z
-    (c .loop-b .carried) (c .rotate-in-front-head .result .1) lz (omega arith) (omega arith) at (omega arith) (c .rotate-in-front-head .ensures .cells) in
-    (subst (λ (v : ℕ). WellFormed 256 (set hs b h) v) (sym n) s, omega arith, (e, omega arith, omega arith, omega arith, sym p ∙ q .4))
+    let p = stepped 256 hs cs b e (c .head-of-head-in-loop-b .result) (c .loop-b .inv .0) (omega arith) (c .block-end-end-in-loop-b .ensures) (c .head-of-head-in-loop-b .ensures) h 0 (length (take (e - a) (drop a cs))) (q .0) e z
+    (c .loop-b .carried) (c .rotate-in-front-turned .result .1) lz (omega arith) (omega arith) at (omega arith) (c .rotate-in-front-turned .ensures .cells) in
+    (headed-room 256 (set hs b h) _ _ (sym n) s, omega arith, (e, omega arith, omega arith, omega arith, sym p ∙ q .4))
 
 pub returns : need.returns
 returns g c =
@@ -77,10 +79,9 @@ returns g c =
     let lz = c .insert-shift-carried .kept .block in
     let n = length-putMid a (e - a) cs z (lz ∙ lb) (omega arith) in
     let N : length (c .loop-b .cells) ≡ length cs = c .loop-b .kept .cells ∙ n in
-    let s = subst (λ (v : ℕ). WellFormed 256 (c .loop-b .heads) v) N (c .loop-b .inv .0) in
-    let l0 = length-all 256 hs cs (c .pre .heads) in
-    let l1 = length-all 256 (c .loop-b .heads) (c .loop-b .cells) (c .loop-b .inv .0) in
+    let l0 = length-rings 256 hs cs in
+    let l1 = length-rings 256 (c .loop-b .heads) (c .loop-b .cells) in
     let q = c .loop-b .inv .2 in
-    let p = stepped-same 256 hs cs (c .args .i / 256) e (c .pre .heads) (omega arith) (c .block-end-end .ensures) (c .args .i - a) (c .if-len-end .stop - a) (c .args .i) (c .if-len-end .stop) z
+    let p = stepped-same 256 hs cs (c .args .i / 256) e (c .head-of-head .result) (c .pre .heads) (omega arith) (c .block-end-end .ensures) (c .head-of-head .ensures) (c .args .i - a) (c .if-len-end .stop - a) (c .args .i) (c .if-len-end .stop) z
     (c .args .x) (c .insert-shift-carried .result) lz (omega arith) (omega arith) (omega arith) (omega arith) (c .insert-shift-carried .ensures) in
-    record { heads = s; after = grown (rings 256 hs cs) (rings 256 (c .loop-b .heads) (c .loop-b .cells)) (c .args .i) (c .args .len) (q .0) (c .args .x) (c .loop-b .carried) (c .pre .place) (omega arith) (omega (arith, c .loop-b-test .left)) (omega arith) (q .4 ∙ sym p) }
+    grown (rings 256 hs cs) (rings 256 (c .loop-b .heads) (c .loop-b .cells)) (c .args .i) (c .args .len) (q .0) (c .args .x) (c .loop-b .carried) (c .pre .place) (omega arith) (omega (arith, c .loop-b-test .left)) (omega arith) (q .4 ∙ sym p)

@@ -3,7 +3,7 @@ use Prim.Native.Nat.{_+_, _-_}
 use native.Mathlib.Omega.{arith}
 use lib.ListN.{length}
 use borrow.Rule.Slice.PartMut.{putMid}
-use Rattle.row.proofs.Rings.{length-putMid, length-block}
+use Rattle.row.proofs.Lists.{length-putMid, length-block}
 use Rattle.row.proofs.Shifts.{near-in, far-in}
 use Rattle.row.proofs.ring.insert_shift.Needs as need
 

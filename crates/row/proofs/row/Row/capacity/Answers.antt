@@ -3,4 +3,4 @@ use Rattle.row.proofs.row.Row.capacity.Needs as need
 
 pub returns : need.returns
 unfolding room
-returns g c = c .min .ensures
+returns g c = c .room-for .ensures

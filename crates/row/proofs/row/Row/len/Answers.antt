@@ -1,8 +1,6 @@
-use mathlib.Core.Path.{sym}
-use Rattle.row.specs.Row.{room}
-use Rattle.row.proofs.Rooms.{length-items}
+use native.Mathlib.Omega.{arith}
+use Rattle.row.proofs.Rooms.{length-items, items-fit}
 use Rattle.row.proofs.row.Row.len.Needs as need
 
 pub returns : need.returns
-unfolding room
-returns g c = record { len = sym (length-items (c .args .self .now)); fits = c .args .self .now .within }
+returns g c = let r = c .args .self .now in record { len = omega (arith, length-items r); fits = omega (arith, length-items r) }

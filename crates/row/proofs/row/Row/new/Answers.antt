@@ -1,13 +1,10 @@
 use mathlib.Core.Path.{refl}
-use native.Mathlib.Omega.{arith}
+use lib.ListN.{take, replicate}
 use Rattle.row.specs.Rings.{room-of}
 use Rattle.row.specs.Row.{items, room, outside}
-use Rattle.row.proofs.Rings.{well-formed-zero}
+use Rattle.row.proofs.Rooms.{none-first}
 use Rattle.row.proofs.row.Row.new.Needs as need
-
-pub ghost-result : need.ghost-result
-ghost-result g c = (omega arith, (well-formed-zero 256 128 (room-of (c .args .cells .now)) (omega arith) (omega arith), tt))
 
 pub returns : need.returns
 unfolding items room outside
-returns g c = record { empty = refl; room = refl; outside = refl }
+returns g c = record { empty = none-first (replicate 128 0) (take (room-of (c .args .cells .now)) (c .args .cells .now)) (room-of (c .args .cells .now)); room = refl; outside = refl }
