@@ -1,0 +1,9 @@
+use mathlib.Core.Path.{_≡_}
+use Prim.Native.Nat.{_≤_}
+use Rattle.lines.proofs.reader.Reader.read_line.Given as given
+
+abbrev pub Inv-loop-self : given.InvT-loop-self
+Inv-loop-self g l = (l .self .budget ≤ l .entry .self .budget) × (l .self .error ≡ l .entry .self .error)
+
+abbrev pub μ-loop-self : given.MeasureT-loop-self
+μ-loop-self g l = l .self .budget
