@@ -6,14 +6,24 @@ use lib.ListN.{length, getD, take, drop}
 use native.Mathlib.Omega.{arith}
 use lib.Dec.{eqb}
 use borrow.Author.Tests.{ne-eqb}
-use Rattle.std.proofs.shelf.Lists.{drop-more, take-append-drop}
+use Rattle.std.proofs.shelf.Elements.{all-from-getD}
+use Rattle.std.proofs.shelf.Lists.{drop-more, take-append-drop, getD-take, length-take-le}
 use Rattle.std.proofs.shelf.Tests.{cond-false, cond-both, eqb-true}
 use Rattle.lines.specs.Fields.{Spaceless, onto-first, fields}
+use Rattle.lines.specs.Position.{Absent}
 
 -- a line parted at the byte i, which is a space
 pub parted : (line : List ℕ) (i : ℕ) → i < length line → getD line i 0 ≡ 32 → line ≡ take i line ++ 32 ∷ drop (i + 1) line
 parted line i h e =
     sym (take-append-drop i line) ∙ ap (λ l. take i line ++ l) (drop-more line i 0 h ∙ ap (λ b. b ∷ drop (i + 1) line) e)
+
+-- where no space stands up to the end, or up to the byte i
+pub spaceless-whole : (line : List ℕ) → Absent 32 line (length line) → Spaceless line
+spaceless-whole line h = all-from-getD (λ b. b ≡ 32 → ⊥) line 0 h
+
+pub spaceless-front : (line : List ℕ) (i : ℕ) → i < length line → Absent 32 line i → Spaceless (take i line)
+spaceless-front line i l h =
+    all-from-getD (λ b. b ≡ 32 → ⊥) (take i line) 0 (λ k m. let n : k < i = omega (arith, length-take-le i line (omega arith)) in rw getD-take (h k n))
 
 -- the fields of a line with a space, and of one with none
 pub first-field : (key rest : List ℕ) → Spaceless key → fields (key ++ 32 ∷ rest) ≡ key ∷ fields rest

@@ -3,15 +3,16 @@ ghost use mathlib.Core.Path.{_≡_};
 ghost use mathlib.Core.List.{_∷_, _++_};
 ghost use Rattle.std.specs.Options.{Cases};
 ghost use Rattle.lines.specs.Fields.{Spaceless};
+use super::position::position;
+
+const SPACE: u8 = b' ';
 
 /// What stands before the first space and what stands after it, or `None` where there is no space.
 pub fn split_at_space(bytes: &[u8]) -> Option<(&[u8], &[u8])>
     ensures { λ r. ⌜ Cases r (Spaceless (now (bytes .entry))) (λ parts. (now (bytes .entry) ≡ now (parts .0) ++ 32 ∷ now (parts .1)) × Spaceless (now (parts .0))) ⌝ }
 {
-    for (i, byte) in bytes.iter().enumerate() {
-        if *byte == b' ' {
-            return Some((&bytes[0..i], &bytes[i + 1..]));
-        }
+    match position(bytes, SPACE) {
+        Some(i) => Some((&bytes[0..i], &bytes[i + 1..])),
+        None => None,
     }
-    None
 }

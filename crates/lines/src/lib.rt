@@ -3,4 +3,5 @@ pub mod buffer;
 pub mod field;
 pub mod number;
 pub mod output;
+mod position;
 pub mod reader;

@@ -4,7 +4,7 @@ ghost use mathlib.Core.Bool.{true, false};
 ghost use mathlib.Core.List.{[]};
 ghost use Prim.Native.Nat.{_<_};
 ghost use Rattle.std.specs.Options.{Cases as BySome, isSome};
-ghost use Rattle.std.specs.Results.{Cases};
+ghost use Rattle.std.specs.Results.{Cases, isOk};
 ghost use Rattle.std.specs.declared.result.Result.the-variants.{Ok, Err};
 ghost use Rattle.std.specs.declared.option.Option.the-variants.{None};
 ghost use Rattle.lines.specs.Buffer.{contents};
@@ -59,6 +59,7 @@ impl<R: Read> Reader<R> {
         ensures falls { λ r. ⌜ (r ≡ true → now (self .exit) .budget < now (self .entry) .budget) ⌝ }
         ensures stopped { λ r. ⌜ (isSome (now (self .entry) .error) ≡ true → (r ≡ false) × (now (self .exit) ≡ now (self .entry))) ⌝ }
         ensures failed { λ r. ⌜ (isSome (now (self .exit) .error) ≡ true → r ≡ false) ⌝ }
+        ensures ended { λ r. ⌜ (r ≡ false → now (self .exit) .error ≡ None → contents (now (self .exit) .line) ≡ []) ⌝ }
     {
         if self.error.is_some() {
             return false;
@@ -86,6 +87,7 @@ impl<R: Read> Reader<R> {
 
     fn read_line(&mut self) -> io::Result<bool>
         ensures falls { λ r. ⌜ Cases r (λ _. now (self .exit) .budget < now (self .entry) .budget) (λ _. Unit {0}) ⌝ }
+        ensures ended { λ r. ⌜ (r ≡ Ok false → contents (now (self .exit) .line) ≡ []) ⌝ }
         ensures error { λ _. ⌜ now (self .exit) .error ≡ now (self .entry) .error ⌝ }
     {
         self.line.clear();
@@ -108,7 +110,10 @@ impl<R: Read> Reader<R> {
 }
 
 // Adds the next block of the input to the line, up to the line's end.
-fn take_block<R: Read>(input: &mut BufReader<R>, line: &mut LineBuffer) -> io::Result<Block> {
+fn take_block<R: Read>(input: &mut BufReader<R>, line: &mut LineBuffer) -> io::Result<Block>
+    ensures ended { λ r. ⌜ (r ≡ Ok Block.InputEnd → now (line .exit) ≡ now (line .entry)) ⌝ }
+    ensures failed { λ r. ⌜ (isOk r ≡ false → now (line .exit) ≡ now (line .entry)) ⌝ }
+{
     let block = input.fill_buf()?;
     if block.is_empty() {
         return Ok(Block::InputEnd);

@@ -2,11 +2,14 @@
 ghost use mathlib.Core.Path.{_≡_};
 ghost use mathlib.Core.List.{[], _∷_, _++_};
 ghost use Prim.Native.Nat.{_<_};
-ghost use lib.ListN.{length, getD, take};
-ghost use Rattle.std.specs.Options.{Cases, valueOr};
-ghost use Rattle.lines.specs.Buffer.{contents, kept, Unended};
+ghost use lib.Dec.{leb};
+ghost use lib.ListN.{length, take};
+ghost use Rattle.std.specs.Options.{valueOr};
+ghost use Rattle.lines.specs.Buffer.{contents, kept};
+ghost use Rattle.lines.specs.Position.{FirstPlace};
 use super::KEPT;
 use super::LineBuffer;
+use crate::position::position;
 
 impl LineBuffer {
     /// An empty line.
@@ -37,23 +40,34 @@ impl LineBuffer {
     pub fn push(&mut self, byte: u8)
         ensures { λ _. ⌜ contents (now (self .exit)) ≡ kept (contents (now (self .entry)) ++ byte ∷ []) ⌝ }
     {
-        if self.len < KEPT {
-            self.bytes[self.len] = byte;
-            self.len += 1;
+        if self.is_full() {
+            return;
         }
+        self.bytes[self.len] = byte;
+        self.len += 1;
     }
 
     /// Adds a block up to the line's end, and answers where in the block the end is, if it is there.
     pub fn add_block(&mut self, block: &[u8]) -> Option<usize>
-        ensures end { λ r. ⌜ Cases r (Unended (now (block .entry)) (length (now (block .entry)))) (λ end. (end < length (now (block .entry))) × (getD (now (block .entry)) end 0 ≡ 10) × Unended (now (block .entry)) end) ⌝ }
+        ensures end { λ r. ⌜ FirstPlace 10 (now (block .entry)) r ⌝ }
         ensures added { λ r. ⌜ contents (now (self .exit)) ≡ kept (contents (now (self .entry)) ++ take (valueOr r (length (now (block .entry)))) (now (block .entry))) ⌝ }
     {
-        for (i, byte) in block.iter().enumerate() {
-            if *byte == b'\n' {
-                return Some(i);
-            }
+        let end = position(block, b'\n');
+        self.extend(&block[0..end.unwrap_or(block.len())]);
+        end
+    }
+
+    fn is_full(&self) -> bool
+        ensures { λ r. ⌜ r ≡ leb 257 (now (self .entry) .len) ⌝ }
+    {
+        self.len >= KEPT
+    }
+
+    fn extend(&mut self, bytes: &[u8])
+        ensures { λ _. ⌜ contents (now (self .exit)) ≡ kept (contents (now (self .entry)) ++ now (bytes .entry)) ⌝ }
+    {
+        for byte in bytes {
             self.push(*byte);
         }
-        None
     }
 }

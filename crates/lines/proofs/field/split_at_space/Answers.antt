@@ -1,17 +1,12 @@
-use mathlib.Core.Path.{subst}
 use native.Mathlib.Nat.{sub-zero}
-use Rattle.std.proofs.shelf.Elements.{all-more}
-use Rattle.std.proofs.shelf.Lists.{take-rest, take-all}
-use Rattle.lines.specs.Fields.{Spaceless}
-use Rattle.lines.proofs.Spaces.{parted}
+use Rattle.std.proofs.shelf.Lists.{take-rest}
+use Rattle.lines.proofs.Spaces.{parted, spaceless-front, spaceless-whole}
 use Rattle.lines.proofs.field.split_at_space.Needs as need
 
-pub loop-i-again : need.loop-i-again
-loop-i-again c = all-more _ (c .args .bytes .now) (c .loop-i .i) 0 (c .loop-i-test .taken) (c .loop-i .inv) (c .if-byte-eq32 .left)
+pub returns-in-Some : need.returns-in-Some
+returns-in-Some c =
+    let at = c .in-Some .ensures tt in
+    rw (take-rest, sub-zero) (parted (c .args .bytes .now) (c .in-Some .i) (at .0) (at .1), spaceless-front (c .args .bytes .now) (c .in-Some .i) (at .0) (at .2))
 
-pub returns-then-byte-eq32 : need.returns-then-byte-eq32
-returns-then-byte-eq32 c =
-    rw (take-rest, sub-zero) (parted (c .args .bytes .now) (c .loop-i .i) (c .loop-i-test .taken) (c .if-byte-eq32 .taken), c .loop-i .inv)
-
-pub returns : need.returns
-returns c = subst Spaceless (take-all (c .loop-i .i) (c .args .bytes .now) (c .loop-i-test .left)) (c .loop-i .inv)
+pub returns-in-None : need.returns-in-None
+returns-in-None c = spaceless-whole (c .args .bytes .now) (c .in-None .ensures tt)

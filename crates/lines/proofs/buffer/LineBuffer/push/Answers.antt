@@ -1,11 +1,13 @@
 use native.Mathlib.Omega.{arith}
 use Rattle.lines.proofs.Kept.{stored, full}
+use Rattle.std.proofs.shelf.Tests.{leb-true, leb-false}
+use mathlib.Core.Path.{sym}
 use Rattle.lines.proofs.buffer.LineBuffer.push.Needs as need
 
-pub returns-then-self-lt-KEPT : need.returns-then-self-lt-KEPT
-returns-then-self-lt-KEPT c =
-    stored (c .args .self .now .bytes) (c .args .self .now .len) (c .args .self .now .whole) (c .args .byte) (omega arith)
+pub returns-then-is-full : need.returns-then-is-full
+returns-then-is-full c =
+    full (c .args .self .now .bytes) (c .args .self .now .len) (c .args .self .now .whole) (c .args .byte) (omega arith) (leb-true 257 (c .args .self .now .len) (sym (c .if-is-full .ensures tt)))
 
-pub returns-else-self-lt-KEPT : need.returns-else-self-lt-KEPT
-returns-else-self-lt-KEPT c =
-    full (c .args .self .now .bytes) (c .args .self .now .len) (c .args .self .now .whole) (c .args .byte) (omega arith) (omega arith)
+pub returns : need.returns
+returns c =
+    stored (c .args .self .now .bytes) (c .args .self .now .len) (c .args .self .now .whole) (c .args .byte) (leb-false 257 (c .args .self .now .len) (sym (c .if-is-full .ensures tt)))
