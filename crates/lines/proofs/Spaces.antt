@@ -58,7 +58,7 @@ some-field [] = omega arith
 some-field (b ∷ line) =
     cond-both (eqb b 32) _ _ (λ fs. 0 < length fs) (λ _. omega arith) (λ _. onto-some b (fields line))
 
-pub join-fields : (line : List ℕ) → join (fields line) ≡ line
+join-fields : (line : List ℕ) → join (fields line) ≡ line
 join-fields [] = refl
 join-fields (b ∷ line) =
     cond-both (eqb b 32) _ _ (λ fs. join fs ≡ b ∷ line)

@@ -1,5 +1,4 @@
 //! Reads the lines of a listing, and answers how many are well-formed.
-ghost use mathlib.Core.Path.{_≡_};
 
 mod parser;
 
