@@ -1,0 +1,4 @@
+pub mod Buffer
+pub mod Fields
+pub mod Number
+pub mod Position
