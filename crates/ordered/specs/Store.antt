@@ -1,11 +1,26 @@
--- What a store of sorted entries means.
+-- What the ordered store means.
 use mathlib.Core.Bool.{Bool}
 use mathlib.Core.List.{List}
 use Prim.Native.Nat.{ℕ}
+use base.Fml.{GName}
 use Rattle.chains.specs.State.{StoreState}
+use Rattle.row.specs.Row.{items, room, outside}
 use Rattle.ordered.specs.declared.cell.Cell.{Cell}
+use Rattle.ordered.specs.declared.ordered.Ordered.{Ordered}
 use Rattle.ordered.specs.Sorted.{held}
 
--- what the entries hold, in one section for all keys
+-- its entries, in their order
+abbrev pub entries : {K V : Type 0} → Ordered K V → List (Cell K V)
+entries s = items (s .row)
+
+-- the most entries that it can hold
+abbrev pub room-of : {K V : Type 0} → Ordered K V → ℕ
+room-of s = room (s .row)
+
+-- which cells were lent, and what those past the room hold
+abbrev pub spare : {K V : Type 0} → Ordered K V → GName × List (Cell K V)
+spare s = outside (s .row)
+
+-- what entries hold, in one section for all keys
 abbrev pub state-of : {K V : Type 0} → (K → K → Bool) → List (Cell K V) → ℕ → StoreState K V
-state-of less es room = record { contents = held less es; section = λ _. 0; room = λ _. room }
+state-of less es r = record { contents = held less es; section = λ _. 0; room = λ _. r }

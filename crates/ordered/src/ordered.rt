@@ -8,9 +8,9 @@ ghost use Rattle.std.specs.Options.{Cases};
 ghost use Rattle.std.specs.declared.option.Option.the-variants.{Some};
 ghost use Rattle.std.specs.shelf.Maps.{nth};
 ghost use Rattle.chains.specs.Contents.{sequence};
-ghost use Rattle.row.specs.Row.{items, room, outside};
 ghost use Rattle.ordered.specs.Keyed.{keyed};
 ghost use Rattle.ordered.specs.Sorted.{Sorted, smaller, not-greater, held};
+ghost use Rattle.ordered.specs.Store.{entries, room-of, spare};
 use crate::bound::NotGreater;
 use crate::bound::NotGreaterPredicate;
 use crate::bound::Smaller;
@@ -42,9 +42,10 @@ struct Found<V> {
 impl<'a, K: Key, V: Copy> Ordered<'a, K, V> {
     /// An empty store over lent cells. Its room is their number, or 32,768 if there are more.
     pub fn new(cells: &'a mut [Cell<K, V>]) -> Self
-        ensures empty { λ r. ⌜ items (r .row) ≡ [] ⌝ }
-        ensures room { λ r. ⌜ room (r .row) ≡ min (length (now (cells .entry))) 32768 ⌝ }
-        ensures outside { λ r. ⌜ outside (r .row) ≡ (name (cells .entry), drop (room (r .row)) (now (cells .entry))) ⌝ }
+        ensures empty { λ r. ⌜ entries r ≡ [] ⌝ }
+        ensures valid { λ r. ⌜ Sorted (K·Key .less) (entries r) ⌝ }
+        ensures room { λ r. ⌜ room-of r ≡ min (length (now (cells .entry))) 32768 ⌝ }
+        ensures outside { λ r. ⌜ spare r ≡ (name (cells .entry), drop (room-of r) (now (cells .entry))) ⌝ }
     {
         Ordered {
             row: Row::new(cells),
@@ -53,16 +54,16 @@ impl<'a, K: Key, V: Copy> Ordered<'a, K, V> {
 
     /// The place of the key's first entry, or where it would stand.
     fn start(&self, key: K) -> usize
-        ensures within { λ r. ⌜ r ≤ length (items (now (self .entry) .row)) ⌝ }
-        ensures place { λ r. ⌜ (Sorted (K·Key .less) (items (now (self .entry) .row)) → r ≡ smaller (K·Key .less) (items (now (self .entry) .row)) key) ⌝ }
+        ensures within { λ r. ⌜ r ≤ length (entries (now (self .entry))) ⌝ }
+        ensures place { λ r. ⌜ (Sorted (K·Key .less) (entries (now (self .entry))) → r ≡ smaller (K·Key .less) (entries (now (self .entry))) key) ⌝ }
     {
         self.row.partition_point(&Smaller { key })
     }
 
     /// The place behind the key's last entry.
     fn end(&self, key: K) -> usize
-        ensures within { λ r. ⌜ r ≤ length (items (now (self .entry) .row)) ⌝ }
-        ensures place { λ r. ⌜ (Sorted (K·Key .less) (items (now (self .entry) .row)) → r ≡ not-greater (K·Key .less) (items (now (self .entry) .row)) key) ⌝ }
+        ensures within { λ r. ⌜ r ≤ length (entries (now (self .entry))) ⌝ }
+        ensures place { λ r. ⌜ (Sorted (K·Key .less) (entries (now (self .entry))) → r ≡ not-greater (K·Key .less) (entries (now (self .entry))) key) ⌝ }
     {
         self.row.partition_point(&NotGreater { key })
     }
@@ -70,11 +71,11 @@ impl<'a, K: Key, V: Copy> Ordered<'a, K, V> {
     /// The value at a rank of the key's sequence. From the key's first place on no entry is smaller,
     /// so one comparison tells whether an entry there is the key's own.
     fn find(&self, key: K, rank: usize) -> Option<Found<V>>
-        ensures { λ r. ⌜ (Sorted (K·Key .less) (items (now (self .entry) .row)) → Cases r
-            (length (sequence (K·Key .less) (held (K·Key .less) (items (now (self .entry) .row))) key) ≤ rank)
-            (λ f. (f .place ≡ smaller (K·Key .less) (items (now (self .entry) .row)) key + rank)
-            × (rank < length (sequence (K·Key .less) (held (K·Key .less) (items (now (self .entry) .row))) key))
-            × (nth (sequence (K·Key .less) (held (K·Key .less) (items (now (self .entry) .row))) key) rank ≡ Some (f .value)))) ⌝ }
+        ensures { λ r. ⌜ (Sorted (K·Key .less) (entries (now (self .entry))) → Cases r
+            (length (sequence (K·Key .less) (held (K·Key .less) (entries (now (self .entry)))) key) ≤ rank)
+            (λ f. (f .place ≡ smaller (K·Key .less) (entries (now (self .entry))) key + rank)
+            × (rank < length (sequence (K·Key .less) (held (K·Key .less) (entries (now (self .entry)))) key))
+            × (nth (sequence (K·Key .less) (held (K·Key .less) (entries (now (self .entry)))) key) rank ≡ Some (f .value)))) ⌝ }
     {
         let place = self.start(key).saturating_add(rank);
         let cell = self.row.get(place)?;
@@ -90,10 +91,10 @@ impl<'a, K: Key, V: Copy> Ordered<'a, K, V> {
 
     /// The place at which a value of that rank goes in, or none where the rank exceeds the length.
     fn place_for(&self, key: K, rank: usize) -> Option<usize>
-        ensures { λ r. ⌜ (Sorted (K·Key .less) (items (now (self .entry) .row)) → Cases r
-            (length (sequence (K·Key .less) (held (K·Key .less) (items (now (self .entry) .row))) key) < rank)
-            (λ place. (place ≡ smaller (K·Key .less) (items (now (self .entry) .row)) key + rank)
-            × (rank ≤ length (sequence (K·Key .less) (held (K·Key .less) (items (now (self .entry) .row))) key)))) ⌝ }
+        ensures { λ r. ⌜ (Sorted (K·Key .less) (entries (now (self .entry))) → Cases r
+            (length (sequence (K·Key .less) (held (K·Key .less) (entries (now (self .entry)))) key) < rank)
+            (λ place. (place ≡ smaller (K·Key .less) (entries (now (self .entry))) key + rank)
+            × (rank ≤ length (sequence (K·Key .less) (held (K·Key .less) (entries (now (self .entry)))) key)))) ⌝ }
     {
         match rank.checked_sub(1) {
             None => Some(self.start(key)),
@@ -106,7 +107,7 @@ impl<'a, K: Key, V: Copy> Ordered<'a, K, V> {
 
     /// The key of the entry at a place.
     fn key_at(&self, place: usize) -> Option<K>
-        ensures { λ r. ⌜ r ≡ keyed (nth (items (now (self .entry) .row)) place) ⌝ }
+        ensures { λ r. ⌜ r ≡ keyed (nth (entries (now (self .entry))) place) ⌝ }
     {
         match self.row.get(place) {
             Some(cell) => Some(cell.key),

@@ -1,10 +1,9 @@
 // The calls of a store, over sorted entries.
 ghost use mathlib.Core.List.{List};
 ghost use base.Fml.{GName};
-ghost use Rattle.row.specs.Row.{items, room, outside};
 ghost use Rattle.ordered.specs.declared.cell.Cell.{Cell as Entry};
 ghost use Rattle.ordered.specs.Sorted.{Sorted};
-ghost use Rattle.ordered.specs.Store.{state-of};
+ghost use Rattle.ordered.specs.Store.{entries, room-of, spare, state-of};
 use super::Ordered;
 use crate::cell::Cell;
 use chains::ChainStore;
@@ -16,13 +15,13 @@ pub impl<'a, K: Key, V: Copy> ChainStore for Ordered<'a, K, V> as OrderedChains 
 
     type Value = V;
 
-    ghost state = { λ s. state-of (K·Key .less) (items (s .row)) (room (s .row)) };
+    ghost state = { λ s. state-of (K·Key .less) (entries s) (room-of s) };
 
-    ghost valid = { λ s. Sorted (K·Key .less) (items (s .row)) };
+    ghost valid = { λ s. Sorted (K·Key .less) (entries s) };
 
     ghost Outside = { GName × List (Entry K V) };
 
-    ghost outside = { λ s. outside (s .row) };
+    ghost outside = { spare };
 
     fn clear(&mut self) {
         self.row.clear();
