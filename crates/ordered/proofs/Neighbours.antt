@@ -19,7 +19,7 @@ use Rattle.chains.proofs.Orders.{same-refl, same-eq}
 use Rattle.chains.proofs.Entries.{contents-ascending, contents-sequence}
 use Rattle.chains.proofs.Neighbours.{least-unique, first-least, last-greatest, above-least, below-greatest}
 use Rattle.ordered.specs.declared.cell.Cell.{Cell}
-use Rattle.ordered.specs.Keyed.{keyed}
+use Rattle.ordered.specs.Found.{keyed}
 use Rattle.ordered.specs.Sorted.{Sorted, smaller, not-greater, held}
 use Rattle.ordered.proofs.Sorted.{sorted-at, behind-place, up-to-place, ahead-place, from-place}
 use Rattle.ordered.proofs.Effects.{stretch-within}

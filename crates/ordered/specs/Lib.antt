@@ -1,3 +1,3 @@
 pub mod Sorted
-pub mod Keyed
+pub mod Found
 pub mod Store

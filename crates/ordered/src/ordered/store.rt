@@ -2,10 +2,8 @@
 ghost use mathlib.Core.List.{List};
 ghost use base.Fml.{GName};
 ghost use Rattle.ordered.specs.declared.cell.Cell.{Cell as Entry};
-ghost use Rattle.ordered.specs.Sorted.{Sorted};
-ghost use Rattle.ordered.specs.Store.{entries, room-of, spare, state-of};
+ghost use Rattle.ordered.specs.Store.{spare, state as state-in, Valid};
 use super::Ordered;
-use crate::cell::Cell;
 use chains::ChainStore;
 use chains::Refusal;
 use keys::Key;
@@ -15,16 +13,16 @@ pub impl<'a, K: Key, V: Copy> ChainStore for Ordered<'a, K, V> as OrderedChains 
 
     type Value = V;
 
-    ghost state = { λ s. state-of (K·Key .less) (entries s) (room-of s) };
+    ghost state = { state-in (K·Key .less) };
 
-    ghost valid = { λ s. Sorted (K·Key .less) (entries s) };
+    ghost valid = { Valid (K·Key .less) };
 
     ghost Outside = { GName × List (Entry K V) };
 
     ghost outside = { spare };
 
     fn clear(&mut self) {
-        self.row.clear();
+        self.remove_all();
     }
 
     fn count(&self, key: K) -> usize {
@@ -32,31 +30,29 @@ pub impl<'a, K: Key, V: Copy> ChainStore for Ordered<'a, K, V> as OrderedChains 
     }
 
     fn value(&self, key: K, rank: usize) -> Option<V> {
-        let found = self.find(key, rank)?;
-        Some(found.value)
+        match self.find(key, rank) {
+            Some(found) => Some(found.value),
+            None => None,
+        }
     }
 
     fn put(&mut self, key: K, rank: usize, value: V) -> Result<(), Refusal> {
-        let Some(place) = self.place_for(key, rank) else {
-            return Err(Refusal::PastEnd);
-        };
-        if self.row.insert(place, Cell { key, value }) {
-            Ok(())
-        } else {
-            Err(Refusal::Full)
+        match self.place_for(key, rank) {
+            Some(place) => self.insert_at(place, key, rank, value),
+            None => Err(Refusal::PastEnd),
         }
     }
 
     fn set(&mut self, key: K, rank: usize, value: V) -> bool {
         match self.find(key, rank) {
-            Some(found) => self.row.set(found.place, Cell { key, value }),
+            Some(found) => self.replace_at(found.place, key, rank, value),
             None => false,
         }
     }
 
     fn take(&mut self, key: K, rank: usize) -> bool {
         match self.find(key, rank) {
-            Some(found) => self.row.remove(found.place).is_some(),
+            Some(found) => self.remove_at(found.place, key, rank),
             None => false,
         }
     }

@@ -10,22 +10,21 @@ use Rattle.ordered.specs.declared.cell.Cell.{Cell}
 use Rattle.ordered.specs.Sorted.{Sorted}
 use Rattle.ordered.proofs.Calls.{take-out}
 use Rattle.ordered.proofs.Sorted.{sorted-take}
-use Rattle.ordered.proofs.ordered.store.OrderedChains.take.Needs as need
+use Rattle.ordered.proofs.ordered.Ordered.remove_at.Needs as need
 
 nothing : {X : Type 0} (o : Option X) → isSome o ≡ false → o ≡ None
 nothing None h = λ _. None
 nothing (Some x) h = absurd (both-ways (isSome (Some x)) h (λ _. isSome (Some x)))
 
-pub returns-in-Some : need.returns-in-Some
-returns-in-Some g c =
+pub returns : need.returns
+returns g c =
     let o = g .K·Key·met .order in
     let row = c .args .self .now .row in
     let after = c .remove .last .self in
     let P : List (Cell (g .K .Denot) (g .V .Denot)) → Type 0 = λ es. Sorted (g .K·Key .less) es in
     record {
-      valid = λ s. subst P (sym (c .remove .ensures .effect)) (sorted-take o (items row) (c .in-Some .found .place) s);
-      effect = λ s. let f = c .in-Some .ensures tt s in
-          take-out o (items row) (items after) (c .args .key) (c .remove .result) (c .in-Some .found .place) (c .args .rank) (room row) (room after) (c .is-some .result) s (f .0) (f .1) (c .remove .ensures .answer) (c .is-some .ensures) (c .remove .ensures .effect) (c .remove .ensures .room);
+      valid = λ s. subst P (sym (c .remove .ensures .effect)) (sorted-take o (items row) (c .args .place) s);
+      effect = λ s p. take-out o (items row) (items after) (c .args .key) (c .remove .result) (c .args .place) (c .args .rank) (room row) (room after) (c .is-some .result) s (p .0) (p .1) (c .remove .ensures .answer) (c .is-some .ensures) (c .remove .ensures .effect) (c .remove .ensures .room);
       refused = λ q. let same = c .remove .ensures .refused (nothing (c .remove .result) (sym (c .is-some .ensures) ∙ q)) in λ i. record { row = same i };
       outside = c .remove .ensures .outside;
     }
