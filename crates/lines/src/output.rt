@@ -38,6 +38,17 @@ impl<W: Write + Drop> Output<W> {
         }
     }
 
+    /// Writes the text as it stands.
+    pub fn text(&mut self, text: &str)
+        ensures { λ _. ⌜ (isSome (now (self .entry) .error) ≡ true → now (self .exit) ≡ now (self .entry)) ⌝ }
+    {
+        if self.error.is_none() {
+            if let Err(e) = self.writer.write_all(text.as_bytes()) {
+                self.error = Some(e);
+            }
+        }
+    }
+
     /// Writes what is still held, unless an error came before, and answers the first error.
     pub fn finish(self) -> io::Result<()>
         ensures { λ r. ⌜ BySome (self .error) (Unit {0}) (λ e. r ≡ Err e) ⌝ }

@@ -1,1 +1,4 @@
 mod Forms
+mod Sortedness
+mod Walks
+mod Texts
