@@ -1,4 +1,4 @@
 mod Forms
-mod Sortedness
+mod Validity
 mod Walks
 mod Texts

@@ -20,10 +20,9 @@ use Rattle.chains.specs.Contents.{sequence, used, Ascending, first-key, key-abo
 use Rattle.chains.proofs.Entries.{contents-ascending, contents-used}
 use Rattle.row.proofs.Rooms.{items-fit, room-small}
 use Rattle.ordered.proofs.Effects.{stretch-within}
-use Rattle.ordered.specs.Sorted.{held}
 use Rattle.ordered.specs.Store.{entries}
-use Rattle.ordered.specs.declared.cell.Cell.{Cell}
 use Rattle.ordered.specs.declared.ordered.Ordered.{Ordered}
+use Rattle.listing.specs.Store.{contents-in, places-in}
 use Rattle.listing.specs.Report.{spaced, line-text, lines-text, total}
 use Rattle.listing.proofs.Walks.{drop-nth, drop-nth-none, turn, no-turn}
 
@@ -54,22 +53,21 @@ total-used [] = refl
 total-used (e ∷ c) = ap (λ (n : ℕ). length (e .1) + n) (total-used c)
 
 -- a store holds no more than 32,768 values, and a key at least one
-pub total-small : (s : Ordered LettersKey ℕ) → total (held letters-less (entries s)) ≤ 32768
+pub total-small : (s : Ordered LettersKey ℕ) → total (contents-in s) ≤ 32768
 total-small s =
-    let es = entries s in
-    omega (arith, total-used (held letters-less es), contents-used letters-order (λ e. e .key) (λ e. e .value) es, items-fit (s .row), room-small (s .row))
+    omega (arith, total-used (contents-in s), contents-used letters-order (λ e. e .key) (λ e. e .value) (entries s), items-fit (s .row), room-small (s .row))
 
 keys-le-total : (c : List (LettersKey × List ℕ)) → Ascending letters-less c → length c ≤ total c
 keys-le-total [] r = omega arith
 keys-le-total (e ∷ c) r = let n = keys-le-total c (r .2) in omega (arith, r .0)
 
-pub held-ascending : (s : Ordered LettersKey ℕ) → Ascending letters-less (held letters-less (entries s))
+pub held-ascending : (s : Ordered LettersKey ℕ) → Ascending letters-less (contents-in s)
 held-ascending s = contents-ascending letters-order (λ e. e .key) (λ e. e .value) (entries s)
 
-pub keys-small : (s : Ordered LettersKey ℕ) → length (held letters-less (entries s)) ≤ 32768
-keys-small s = omega (arith, keys-le-total (held letters-less (entries s)) (held-ascending s), total-small s)
+pub keys-small : (s : Ordered LettersKey ℕ) → length (contents-in s) ≤ 32768
+keys-small s = omega (arith, keys-le-total (contents-in s) (held-ascending s), total-small s)
 
-pub places-small : (s : Ordered LettersKey ℕ) (key : LettersKey) → length (sequence letters-less (held letters-less (entries s)) key) ≤ 32768
+pub places-small : (s : Ordered LettersKey ℕ) (key : LettersKey) → length (places-in s key) ≤ 32768
 places-small s key = omega (arith, stretch-within letters-order (entries s) key, items-fit (s .row), room-small (s .row))
 
 -- the first i keys are listed: what is written and counted, with what the others add, is all
@@ -100,8 +98,7 @@ module _ (c : List (LettersKey × List ℕ)) (i : ℕ) (next : Option LettersKey
 
   pub listed-all : next ≡ None → (text ≡ lines-text c) × (i ≡ length c) × (values ≡ total c)
   listed-all n =
-      let d = no-turn letters-order c i (sym (h .first) ∙ n) in
-      (
+      let d = no-turn letters-order c i (sym (h .first) ∙ n) in (
         sym (append-nil text) ∙ ap (λ (es : List (LettersKey × List ℕ)). text ++ lines-text es) (sym d) ∙ h .written,
         omega (arith, h .within, length-drop i c, ap length d),
         omega (arith, h .counted, ap total d),

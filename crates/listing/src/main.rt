@@ -22,7 +22,10 @@ fn main(rt: LibcRuntime) -> io::Result<()> {
 }
 
 fn run(rt: &LibcRuntime) -> io::Result<()> {
-    let mut cells = [Cell { key: LettersKey { number: 0 }, value: 0 }; CELLS];
+    let mut cells = [Cell {
+        key: LettersKey { number: 0 },
+        value: 0,
+    }; CELLS];
     let mut listing = Listing::new(&mut cells);
     let mut lines = Reader::new(rt.stdin());
     let mut out = Output::new(rt.stdout());
@@ -38,7 +41,11 @@ fn run(rt: &LibcRuntime) -> io::Result<()> {
 }
 
 // Adds the place of each line, and answers `?` to a malformed one and `refused` to one that finds no room.
-fn read<R: Read, W: Write + Drop>(lines: &mut Reader<R>, listing: &mut Listing, out: &mut Output<W>) {
+fn read<R: Read, W: Write + Drop>(
+    lines: &mut Reader<R>,
+    listing: &mut Listing,
+    out: &mut Output<W>,
+) {
     while lines.advance() {
         match parse(lines.line()) {
             Line::Entry { key, place } => {

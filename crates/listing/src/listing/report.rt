@@ -1,25 +1,22 @@
-// The text of a report.
+// The lines of a report.
 ghost use mathlib.Core.Path.{_≡_};
 ghost use mathlib.Core.List.{_∷_};
 ghost use lib.ListN.{length};
 ghost use Rattle.std.specs.Of.String.{string-bytes};
 ghost use Rattle.std.specs.Vec.{made};
 ghost use Rattle.std.specs.Written.{decimal};
-ghost use Rattle.chains.specs.Contents.{sequence};
-ghost use Rattle.keys.specs.Letters.{letters-less};
-ghost use Rattle.ordered.specs.Sorted.{Sorted, held};
-ghost use Rattle.ordered.specs.Store.{entries};
 ghost use Rattle.listing.specs.Report.{line-text, lines-text, total, totals-text};
+ghost use Rattle.listing.specs.Store.{Valid, contents-in, places-in};
+use super::store::Store;
 use super::store::count;
 use super::store::first_key;
 use super::store::next_key;
 use super::store::place;
 use keys::LettersKey;
-use ordered::Ordered;
 use std::alloc::AllocError;
 use std::alloc::Global;
 
-/// The lines of the keys, and what the last line counts.
+/// The lines of the keys, and what the last line says of them.
 #[derive(Drop)]
 pub(super) struct Listed {
     pub(super) text: String,
@@ -28,11 +25,11 @@ pub(super) struct Listed {
 }
 
 /// The lines of all keys, rising.
-pub(super) fn lines(store: &Ordered<'_, LettersKey, u32>, heap: Global) -> Result<Listed, AllocError>
-    requires { ⌜ Sorted letters-less (entries (now store)) ⌝ }
-    ensures { λ r. ⌜ made r (λ l. (string-bytes (l .text) ≡ lines-text (held letters-less (entries (now (store .entry)))))
-        × (l .keys ≡ length (held letters-less (entries (now (store .entry)))))
-        × (l .values ≡ total (held letters-less (entries (now (store .entry)))))) ⌝ }
+pub(super) fn lines(store: &Store, heap: Global) -> Result<Listed, AllocError>
+    requires { ⌜ Valid (now store) ⌝ }
+    ensures { λ r. ⌜ made r (λ l. (string-bytes (l .text) ≡ lines-text (contents-in (now (store .entry))))
+        × (l .keys ≡ length (contents-in (now (store .entry))))
+        × (l .values ≡ total (contents-in (now (store .entry))))) ⌝ }
 {
     let mut text = String::new(heap);
     let mut keys = 0;
@@ -55,9 +52,9 @@ pub(super) fn totals_line(heap: Global, keys: usize, values: usize) -> Result<St
 }
 
 // The line of one key.
-fn line(store: &Ordered<'_, LettersKey, u32>, heap: Global, key: LettersKey) -> Result<String, AllocError>
-    requires { ⌜ Sorted letters-less (entries (now store)) ⌝ }
-    ensures { λ r. ⌜ made r (λ text. string-bytes text ≡ line-text key (sequence letters-less (held letters-less (entries (now (store .entry)))) key)) ⌝ }
+fn line(store: &Store, heap: Global, key: LettersKey) -> Result<String, AllocError>
+    requires { ⌜ Valid (now store) ⌝ }
+    ensures { λ r. ⌜ made r (λ text. string-bytes text ≡ line-text key (places-in (now (store .entry)) key)) ⌝ }
 {
     let mut text = key.number.to_string(heap)?;
     let mut rank = 0;
@@ -69,6 +66,7 @@ fn line(store: &Ordered<'_, LettersKey, u32>, heap: Global, key: LettersKey) -> 
     Ok(text)
 }
 
+// A place as it stands behind the key or another place.
 fn behind_space(heap: Global, n: u32) -> Result<String, AllocError>
     ensures { λ r. ⌜ made r (λ text. string-bytes text ≡ 32 ∷ decimal n) ⌝ }
 {

@@ -6,10 +6,7 @@ use lib.ListN.{drop}
 use lib.Utf8.{encode}
 use Rattle.std.specs.Of.String.{string-bytes}
 use Rattle.std.specs.Written.{decimal}
-use Rattle.chains.specs.Contents.{sequence}
-use Rattle.keys.specs.Letters.{letters-less}
-use Rattle.ordered.specs.Sorted.{held}
-use Rattle.ordered.specs.Store.{entries}
+use Rattle.listing.specs.Store.{places-in}
 use Rattle.listing.specs.Report.{spaced}
 use Rattle.listing.proofs.Walks.{nth-within}
 use Rattle.listing.proofs.Texts.{spaced-more, spaced-all, places-small}
@@ -17,17 +14,17 @@ use Rattle.listing.proofs.listing.report.line.Needs as need
 
 pub add-rank : need.add-rank
 add-rank c =
-    let places = sequence letters-less (held letters-less (entries (c .args .store .now))) (c .args .key) in
+    let places = places-in (c .args .store .now) (c .args .key) in
     omega (arith, nth-within places (c .loop-n .rank) (c .in-Some .n) (sym (c .in-Some .ensures tt)), places-small (c .args .store .now) (c .args .key))
 
 pub loop-n-less : need.loop-n-less
 loop-n-less c =
-    let places = sequence letters-less (held letters-less (entries (c .args .store .now))) (c .args .key) in
+    let places = places-in (c .args .store .now) (c .args .key) in
     omega (arith, nth-within places (c .loop-n .rank) (c .in-Some .n) (sym (c .in-Some .ensures tt)))
 
 pub loop-n-again : need.loop-n-again
 loop-n-again c =
-    let places = sequence letters-less (held letters-less (entries (c .args .store .now))) (c .args .key) in
+    let places = places-in (c .args .store .now) (c .args .key) in
     let text = string-bytes (c .loop-n .text) in
     let pushed : string-bytes (c .push-str .last .self) ≡ text ++ 32 ∷ decimal (c .in-Some .n) =
     c .in-Continue-push-str .ensures tt .bytes ∙ ap (λ (bytes : List ℕ). text ++ bytes) (c .deref .ensures ∙ c .in-Continue-behind-space .ensures tt) in
@@ -37,6 +34,6 @@ loop-n-again c =
 pub returns : need.returns
 unfolding encode
 returns c =
-    let places = sequence letters-less (held letters-less (entries (c .args .store .now))) (c .args .key) in
+    let places = places-in (c .args .store .now) (c .args .key) in
     c .in-Continue-push .ensures tt .bytes
     ∙ ap (λ (bytes : List ℕ). bytes ++ 10 ∷ []) (spaced-all (string-bytes (c .loop-n .text)) _ places (c .loop-n .rank) (sym (c .in-rest .ensures tt)) (c .loop-n .inv))
