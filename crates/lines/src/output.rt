@@ -1,4 +1,4 @@
-// Lines to a writer.
+// Text to a writer.
 ghost use mathlib.Core.Path.{_≡_};
 ghost use mathlib.Core.Bool.{true};
 ghost use Rattle.std.specs.Options.{Cases as BySome, isSome};
@@ -9,7 +9,7 @@ use std::io;
 use std::io::BufWriter;
 use std::io::Write;
 
-/// Buffered lines to a writer. After an error nothing more is written, and `finish` hands the first
+/// Buffered text to a writer. After an error nothing more is written, and `finish` hands the first
 /// error on, so that a caller need not stop at each line.
 pub struct Output<W: Write + Drop> {
     writer: BufWriter<W>,
@@ -27,15 +27,22 @@ impl<W: Write + Drop> Output<W> {
         }
     }
 
+    /// Writes the text.
+    pub fn text<D: Display + Drop>(&mut self, text: D)
+        ensures { λ _. ⌜ (isSome (now (self .entry) .error) ≡ true → now (self .exit) ≡ now (self .entry)) ⌝ }
+    {
+        if self.error.is_none() {
+            if let Err(e) = write!(self.writer, "{text}") {
+                self.error = Some(e);
+            }
+        }
+    }
+
     /// Writes the text and a line's end.
     pub fn line<D: Display + Drop>(&mut self, text: D)
         ensures { λ _. ⌜ (isSome (now (self .entry) .error) ≡ true → now (self .exit) ≡ now (self .entry)) ⌝ }
     {
-        if self.error.is_none() {
-            if let Err(e) = writeln!(self.writer, "{text}") {
-                self.error = Some(e);
-            }
-        }
+        self.text(format_args!("{text}\n"));
     }
 
     /// Writes what is still held, unless an error came before, and answers the first error.

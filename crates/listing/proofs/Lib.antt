@@ -1,1 +1,4 @@
 mod Forms
+mod Validity
+mod Walks
+mod Texts

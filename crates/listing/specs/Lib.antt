@@ -1,1 +1,4 @@
 pub mod Lines
+pub mod Store
+pub mod Report
+pub mod Listing
