@@ -3,6 +3,7 @@ use mathlib.Core.Path.{_≡_, refl, sym, _∙_, ap, subst}
 use mathlib.Core.List.{List, [], _∷_, _++_}
 use mathlib.Core.Logic.{_⊎_, inl, inr}
 use Prim.Native.Nat.{ℕ, _+_, _-_, _*_, _≤_, _<_, zero, suc}
+use native.Mathlib.Numerals.{add-one}
 use native.Mathlib.Omega.{arith}
 use lib.ListN.{length, take, drop, getD, set}
 use lib.Seq.{take-append-add, drop-append-add, paste}
@@ -165,6 +166,18 @@ module _ {X : Type 0} where
       let l : length (ring h (set z h x)) ≡ length z = length-ring h (set z h x) ∙ length-set z h x in
       let f : inserted (ring h (set z h x)) (length z) y ≡ ring h (set z h x) ++ y ∷ [] = inserted-end (ring h (set z h x)) (length z) y l in
       rw t (sym (append-assoc (x ∷ drop (h + 1) z) (take h z) (y ∷ [])) ∙ ap (λ (t : List X). t ++ y ∷ []) (sym r) ∙ sym f)
+
+  -- what a full ring took in at its front, moved on to a place
+  pub moved-on : (r s t : List X) (to n : ℕ) (x y w : X) → length s ≡ n → length t ≡ n → to < n → inserted r 0 x ≡ inserted s n y → inserted s (to + 1) x ≡ inserted t 0 w → inserted r to x ≡ inserted t n y
+  moved-on r [] t to n x y w ls lt l e f = absurd (omega arith)
+  moved-on r (v ∷ s) t to n x y w ls lt l e f =
+      let b : r ≡ s ++ y ∷ [] = ap (λ (u : List X). drop 1 u) (e ∙ inserted-end (v ∷ s) n y ls) in
+      let g : inserted (v ∷ s) (suc to) x ≡ inserted t 0 w = rw add-one at f in
+      let d : inserted s to x ≡ t = ap (λ (u : List X). drop 1 u) g in
+      let z : 0 + to ≡ to = omega arith in
+      let m : inserted (s ++ y ∷ []) (0 + to) x ≡ inserted s to x ++ y ∷ [] = inserted-mid [] s (y ∷ []) 0 to x refl (omega arith) in
+      let m' : inserted (s ++ y ∷ []) to x ≡ inserted s to x ++ y ∷ [] = rw z at m in
+      ap (λ (u : List X). inserted u to x) b ∙ m' ∙ ap (λ (u : List X). u ++ y ∷ []) d ∙ sym (inserted-end t n y lt)
 
   -- a full ring takes x in at its end, and lets its first cell out: one write, and the head moves on
   pub back-in : (z : List X) (h : ℕ) (x y : X) → h < length z → y ≡ getD z h y → inserted (ring h z) (length z) x ≡ inserted (ring (h + 1) (set z h x)) 0 y

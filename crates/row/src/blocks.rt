@@ -4,7 +4,7 @@ ghost use Prim.Native.Nat.{ℕ, _+_, _-_, _<_, _≤_, min};
 ghost use lib.ListN.{length, getD, set};
 ghost use Rattle.std.specs.shelf.Lists.{inserted, removed};
 ghost use Rattle.row.specs.Rings.{rings, first-items, Headed, head-in};
-use crate::ring::insert_shift;
+use crate::ring;
 use crate::ring::remove_shift;
 use crate::ring::rotate_in_back;
 use crate::ring::rotate_in_front;
@@ -79,9 +79,9 @@ pub(crate) fn insert<T: Copy>(cells: &mut [T], heads: &mut [u16], len: usize, i:
     let first = i / BLOCK;
     let start = first * BLOCK;
     let end = block_end(cells.len(), start);
-    let stop = if len < end { len + 1 } else { end };
     let head = head_of(heads, first, end - start);
-    let mut carried = insert_shift(&mut cells[start..end], head, i - start, stop - start, x);
+    let (turned, mut carried) = ring::insert(&mut cells[start..end], head, i - start, x);
+    heads[first] = turned as u16;
     for b in first + 1..len / BLOCK + 1 {
         let start = b * BLOCK;
         let end = block_end(cells.len(), start);

@@ -34,8 +34,8 @@ fn shift_left<T: Copy>(run: &mut [T], x: T) -> T
     out
 }
 
-/// Puts `x` at place `to`; the items from there up to `stop` move one place up, and the last of them falls out.
-pub(crate) fn insert_shift<T: Copy>(block: &mut [T], head: usize, to: usize, stop: usize, x: T) -> T
+// Puts `x` at place `to`; the items from there up to `stop` move one place up, and the last of them falls out.
+fn insert_shift<T: Copy>(block: &mut [T], head: usize, to: usize, stop: usize, x: T) -> T
     requires head { ⌜ head ≤ length (now block) ⌝ }
     requires forward { ⌜ to ≤ stop ⌝ }
     requires within { ⌜ stop ≤ length (now block) ⌝ }
@@ -82,6 +82,34 @@ pub(crate) fn rotate_in_front<T: Copy>(block: &mut [T], head: usize, x: T) -> (u
     let out = block[back];
     block[back] = x;
     (back, out)
+}
+
+// Puts `x` at place `to` of a full ring, the last item of which falls out: the head moves back, and the items before
+// `to` move down to it.
+fn rotate_in<T: Copy>(block: &mut [T], head: usize, to: usize, x: T) -> (usize, T)
+    requires head { ⌜ head < length (now block) ⌝ }
+    requires place { ⌜ to < length (now block) ⌝ }
+    ensures head { λ r. ⌜ r .0 < length (now (block .entry)) ⌝ }
+    ensures cells { λ r. ⌜ inserted (ring head (now (block .entry))) to x ≡ inserted (ring (r .0) (now (block .exit))) (length (now (block .entry))) (r .1) ⌝ }
+{
+    let (back, out) = rotate_in_front(block, head, x);
+    let _ = remove_shift(block, back, 0, to + 1, x);
+    (back, out)
+}
+
+/// Puts `x` at place `to` of a full ring, the last item of which falls out: the items on the shorter side of `to` move.
+pub(crate) fn insert<T: Copy>(block: &mut [T], head: usize, to: usize, x: T) -> (usize, T)
+    requires head { ⌜ head < length (now block) ⌝ }
+    requires place { ⌜ to < length (now block) ⌝ }
+    ensures head { λ r. ⌜ r .0 < length (now (block .entry)) ⌝ }
+    ensures cells { λ r. ⌜ inserted (ring head (now (block .entry))) to x ≡ inserted (ring (r .0) (now (block .exit))) (length (now (block .entry))) (r .1) ⌝ }
+{
+    let n = block.len();
+    if to < n / 2 {
+        rotate_in(block, head, to, x)
+    } else {
+        (head, insert_shift(block, head, to, n, x))
+    }
 }
 
 /// Puts `x` behind the items of a full ring, the first of which falls out: one write, and the head moves on.

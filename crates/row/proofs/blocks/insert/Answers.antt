@@ -1,38 +1,42 @@
-use mathlib.Core.Path.{_≡_, refl, sym, _∙_, ap, subst}
-use Prim.Native.Nat.{ℕ, _+_, _-_, _*_, _/_, _%_, _<_, _≤_, min}
+use mathlib.Core.Path.{_≡_, refl, sym, _∙_}
+use Prim.Native.Nat.{_+_, _-_, _*_, _/_}
 use native.Mathlib.Omega.{arith}
 use lib.ListN.{length, set, getD, take, drop}
 use borrow.Rule.Slice.PartMut.{putMid}
 use Rattle.std.specs.shelf.Lists.{inserted}
 use Rattle.row.specs.Rings.{rings}
-use Rattle.row.proofs.Cascade.{stepped, stepped-same}
+use Rattle.row.proofs.Cascade.{stepped}
 use Rattle.row.proofs.Heads.{headed-set, headed-room, head-below}
 use Rattle.row.proofs.Lists.{grown, length-putMid, length-block}
 use Rattle.row.proofs.Rings.{length-rings}
 use Rattle.row.proofs.blocks.insert.Needs as need
-use Rattle.row.proofs.blocks.insert.Needs.{then-len-end, else-len-end}
 
 pub head-of-head-requires : need.head-of-head-requires
 head-of-head-requires g c κs = c .pre .heads (c .args .i / 256) (omega arith)
 
-pub insert-shift-carried-requires : need.insert-shift-carried-requires
-insert-shift-carried-requires g c κs =
+pub insert-turned-requires : need.insert-turned-requires
+insert-turned-requires g c κs =
     let a = c .args .i / 256 * 256 in
     let e = c .block-end-end .result in
     let hb = head-below (c .args .heads .now) (c .args .i / 256) (e - a) (omega arith) in
     let lb = length-block (c .args .cells .now) a e (omega arith) (omega arith) in
-    let st : c .if-len-end .stop ≡ min (c .args .len + 1) e = elim (c .if-len-end .came) [ then-len-end w ↦ omega (arith, w .stop-is) | else-len-end w ↦ omega (arith, w .stop-is) ] in
-    record { head = omega arith; forward = omega arith; within = omega arith }
+    record { head = omega arith; place = omega arith }
+
+pub index-heads-first : need.index-heads-first
+index-heads-first g c = c .pre .heads (c .args .i / 256) (omega arith)
 
 pub loop-b-holds : need.loop-b-holds
 loop-b-holds g c =
-    let a = c .args .i / 256 * 256 in
+    let b = c .args .i / 256 in
+    let a = b * 256 in
     let e = c .block-end-end .result in
-    let z = c .insert-shift-carried .last .block in
-    let lb = length-block (c .args .cells .now) a e (omega arith) (omega arith) in
-    let n = length-putMid a (e - a) (c .args .cells .now) z (c .insert-shift-carried .kept .block ∙ lb) (omega arith) in
-    let st : c .if-len-end .stop ≡ min (c .args .len + 1) e = elim (c .if-len-end .came) [ then-len-end w ↦ omega (arith, w .stop-is) | else-len-end w ↦ omega (arith, w .stop-is) ] in
-    (headed-room 256 (c .args .heads .now) _ _ (sym n) (c .pre .heads), omega arith, (c .if-len-end .stop, omega arith, omega arith, omega arith, refl))
+    let cs = c .args .cells .now in
+    let z = c .insert-turned .last .block in
+    let h = c .insert-turned .result .0 in
+    let lb = length-block cs a e (omega arith) (omega arith) in
+    let n = length-putMid a (e - a) cs z (c .insert-turned .kept .block ∙ lb) (omega arith) in
+    let s = headed-set 256 (c .args .heads .now) (length cs) b h (c .pre .heads) in
+    (headed-room 256 (set (c .args .heads .now) b h) _ _ (sym n) s, omega arith, (e, omega arith, omega arith, omega arith, refl))
 
 pub head-of-head-requires-in-loop-b : need.head-of-head-requires-in-loop-b
 head-of-head-requires-in-loop-b g c κs = c .loop-b .inv .0 (c .loop-b .b) (omega arith)
@@ -69,19 +73,20 @@ loop-b-again g c =
 
 pub returns : need.returns
 returns g c =
-    let a = c .args .i / 256 * 256 in
+    let b = c .args .i / 256 in
+    let a = b * 256 in
     let e = c .block-end-end .result in
     let cs = c .args .cells .now in
     let hs = c .args .heads .now in
-    let z = c .insert-shift-carried .last .block in
-    let st : c .if-len-end .stop ≡ min (c .args .len + 1) e = elim (c .if-len-end .came) [ then-len-end w ↦ omega (arith, w .stop-is) | else-len-end w ↦ omega (arith, w .stop-is) ] in
+    let z = c .insert-turned .last .block in
+    let h = c .insert-turned .result .0 in
     let lb = length-block cs a e (omega arith) (omega arith) in
-    let lz = c .insert-shift-carried .kept .block in
+    let lz = c .insert-turned .kept .block in
     let n = length-putMid a (e - a) cs z (lz ∙ lb) (omega arith) in
     let N : length (c .loop-b .cells) ≡ length cs = c .loop-b .kept .cells ∙ n in
     let l0 = length-rings 256 hs cs in
     let l1 = length-rings 256 (c .loop-b .heads) (c .loop-b .cells) in
     let q = c .loop-b .inv .2 in
-    let p = stepped-same 256 hs cs (c .args .i / 256) e (c .head-of-head .result) (c .pre .heads) (omega arith) (c .block-end-end .ensures) (c .head-of-head .ensures) (c .args .i - a) (c .if-len-end .stop - a) (c .args .i) (c .if-len-end .stop) z
-    (c .args .x) (c .insert-shift-carried .result) lz (omega arith) (omega arith) (omega arith) (omega arith) (c .insert-shift-carried .ensures) in
+    let p = stepped 256 hs cs b e (c .head-of-head .result) (c .pre .heads) (omega arith) (c .block-end-end .ensures) (c .head-of-head .ensures) h (c .args .i - a) (length (take (e - a) (drop a cs))) (c .args .i) e z
+    (c .args .x) (c .insert-turned .result .1) lz (omega arith) (omega arith) (omega arith) (omega arith) (c .insert-turned .ensures .cells) in
     grown (rings 256 hs cs) (rings 256 (c .loop-b .heads) (c .loop-b .cells)) (c .args .i) (c .args .len) (q .0) (c .args .x) (c .loop-b .carried) (c .pre .place) (omega arith) (omega (arith, c .loop-b-test .left)) (omega arith) (q .4 ∙ sym p)

@@ -9,4 +9,4 @@ use Rattle.row.proofs.blocks.insert.Given as given
 abbrev pub Inv-loop-b : given.InvT-loop-b
 Inv-loop-b g l =
     Headed 256 (l .heads) (length (l .cells)) × (l .len < length (l .cells))
-    × ((p : ℕ) × (p ≤ length (l .cells)) × (min (l .b * 256) (l .len + 1) ≤ p) × (p ≤ l .b * 256) × (inserted (rings 256 (l .heads) (l .cells)) p (l .carried) ≡ inserted (rings 256 (l .entry .heads) (l .entry .cells)) (l .entry .stop) (l .entry .carried)))
+    × ((p : ℕ) × (p ≤ length (l .cells)) × (min (l .b * 256) (l .len + 1) ≤ p) × (p ≤ l .b * 256) × (inserted (rings 256 (l .heads) (l .cells)) p (l .carried) ≡ inserted (rings 256 (l .entry .heads) (l .entry .cells)) (l .entry .end) (l .entry .carried)))
