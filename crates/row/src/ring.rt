@@ -3,8 +3,18 @@ ghost use mathlib.Core.Path.{_≡_};
 ghost use mathlib.Core.List.{List, _++_, _∷_, []};
 ghost use Prim.Native.Nat.{ℕ, _+_, _-_, _<_, _≤_};
 ghost use lib.ListN.{length};
+ghost use lib.Seq.{paste};
 ghost use Rattle.std.specs.shelf.Lists.{inserted};
 ghost use Rattle.row.specs.Rings.{ring};
+
+// Moves all cells of a run but the last one place up.
+fn move_up<T: Copy>(run: &mut [T])
+    requires { ⌜ 0 < length (now run) ⌝ }
+    ensures { λ _. ⌜ now (run .exit) ≡ paste (now (run .entry)) 1 (now (run .entry)) (length (now (run .entry)) - 1 - 0) ⌝ }
+{
+    let n = run.len();
+    run.copy_within(0..n - 1, 1);
+}
 
 // Puts `x` before a run of cells, which move one place up, and gives back the last of them, which falls out.
 fn shift_right<T: Copy>(run: &mut [T], x: T) -> T
@@ -15,7 +25,7 @@ fn shift_right<T: Copy>(run: &mut [T], x: T) -> T
         return x;
     }
     let out = run[n - 1];
-    run.copy_within(0..n - 1, 1);
+    move_up(run);
     run[0] = x;
     out
 }
