@@ -1,0 +1,4 @@
+pub mod Contents
+pub mod Sections
+pub mod Outcomes
+pub mod Sides
