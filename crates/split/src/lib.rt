@@ -3,3 +3,4 @@ mod split;
 
 pub use split::Split;
 pub use split::SplitChains;
+pub use split::SplitNeighbours;

@@ -9,8 +9,10 @@ use chains::ChainStore;
 use keys::Key;
 
 mod edit;
+mod neighbours;
 mod store;
 
+pub use neighbours::SplitNeighbours;
 pub use store::SplitChains;
 
 /// A low store and a high one. Keys smaller than the boundary belong to the low store, all others to
