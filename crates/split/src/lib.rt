@@ -4,3 +4,6 @@ mod split;
 pub use split::Split;
 pub use split::SplitChains;
 pub use split::SplitNeighbours;
+
+#[cfg(test)]
+mod tests;

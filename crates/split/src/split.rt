@@ -54,7 +54,7 @@ impl<A: ChainStore, B: ChainStore<Key = A::Key, Value = A::Value>> Split<A, B, A
 
     /// Whether the key belongs to the low store. The store that it belongs to has its values.
     fn is_low(&self, key: A::Key) -> bool
-        ensures side { λ r. ⌜ r ≡ Key·Key .less key (now (self .entry) .boundary) ⌝ }
+        ensures side { λ r. ⌜ Key·Key .less key (now (self .entry) .boundary) ≡ r ⌝ }
         ensures values { λ r. ⌜ (Valid (Key·Key .less) (A·ChainStore .state) (B·ChainStore .state) (A·ChainStore .valid) (B·ChainStore .valid) (now (self .entry)) →
             values (Key·Key .less) (state (Key·Key .less) (A·ChainStore .state) (B·ChainStore .state) (now (self .entry))) key ≡ cond r (values (Key·Key .less) (A·ChainStore .state (now (self .entry) .low)) key) (values (Key·Key .less) (B·ChainStore .state (now (self .entry) .high)) key)) ⌝ }
     {
