@@ -1,0 +1,5 @@
+pub mod Contents
+pub mod Sections
+pub mod Outcomes
+pub mod Sides
+pub mod Neighbours
