@@ -124,8 +124,10 @@ impl Workload {
         }
     }
 
+    /// The first call only warms the caches: making a store writes all of its cells.
     fn store(&self) -> Times {
         let n = self.keys.len();
+        black_box(put(&self.keys));
         let (made, _) = timed(|| put(&[]));
         let (filled, accepted) = timed(|| put(&self.keys));
         let (hit, hits) = timed(|| ask(ordered_value, &self.keys, &self.hits));
