@@ -132,9 +132,10 @@ impl Workload {
         let (filled, accepted) = timed(|| put(&self.keys));
         let (hit, hits) = timed(|| ask(ordered_value, &self.keys, &self.hits));
         let (miss, missed) = timed(|| ask(ordered_value, &self.keys, &self.misses));
-        let (above, _) = timed(|| ask(ordered_above, &self.keys, &self.hits));
+        let (above, nexts) = timed(|| ask(ordered_above, &self.keys, &self.hits));
         let (taken, took) = timed(|| ask(ordered_take, &self.keys, &self.removed));
-        assert_eq!((accepted, hits, missed, took), (n, n * LOOKUPS, 0, n));
+        assert_eq!(accepted, n);
+        self.check(hits, missed, nexts, took);
         let each = n as f64;
         let looked = self.hits.len() as f64;
         [
@@ -144,6 +145,15 @@ impl Workload {
             (above - filled) / looked,
             (taken - filled) / each,
         ]
+    }
+
+    /// Every key is found and removed, no other is found, and every key but the greatest has a next one.
+    fn check(&self, hits: usize, missed: usize, nexts: usize, took: usize) {
+        let n = self.keys.len();
+        assert_eq!(
+            (hits, missed, nexts, took),
+            (n * LOOKUPS, 0, (n - 1) * LOOKUPS, n)
+        );
     }
 
     fn map(&self) -> Times {
@@ -156,14 +166,19 @@ impl Workload {
         });
         let (hit, hits) = timed(|| self.hits.iter().filter(|k| map.get(k).is_some()).count());
         let (miss, missed) = timed(|| self.misses.iter().filter(|k| map.get(k).is_some()).count());
-        let (above, _) = timed(|| self.hits.iter().filter(|k| next(&map, **k).is_some()).count());
+        let (above, nexts) = timed(|| {
+            self.hits
+                .iter()
+                .filter(|k| next(&map, **k).is_some())
+                .count()
+        });
         let (taken, took) = timed(|| {
             self.removed
                 .iter()
                 .filter(|k| map.remove(k).is_some())
                 .count()
         });
-        assert_eq!((hits, missed, took), (n * LOOKUPS, 0, n));
+        self.check(hits, missed, nexts, took);
         let each = n as f64;
         let looked = self.hits.len() as f64;
         [
@@ -179,7 +194,9 @@ impl Workload {
 /// The least key above `key`.
 fn next(map: &BTreeMap<u64, u32>, key: u64) -> Option<u64> {
     use std::ops::Bound::{Excluded, Unbounded};
-    map.range((Excluded(key), Unbounded)).next().map(|(k, _)| *k)
+    map.range((Excluded(key), Unbounded))
+        .next()
+        .map(|(k, _)| *k)
 }
 
 fn median(times: &[Times], call: usize) -> f64 {

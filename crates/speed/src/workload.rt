@@ -14,6 +14,9 @@ use keys::LettersKeyOrder;
 use ordered::Cell;
 use ordered::Ordered;
 
+/// The cells of each store: as many as it can use.
+const CELLS: usize = 32_768;
+
 /// A cell of a store that is empty still.
 const UNUSED: Cell<LettersKey, u32> = Cell {
     key: LettersKey { number: 0 },
@@ -25,7 +28,7 @@ const UNUSED: Cell<LettersKey, u32> = Cell {
 pub extern "C" fn ordered_put(keys: &[u64]) -> usize
     ensures { λ r. ⌜ r ≡ min (length (now (keys .entry))) 32768 ⌝ }
 {
-    let mut cells = [UNUSED; 32_768];
+    let mut cells = [UNUSED; CELLS];
     let mut store = Ordered::new(&mut cells);
     put_all(&mut store, keys)
 }
@@ -35,7 +38,7 @@ pub extern "C" fn ordered_put(keys: &[u64]) -> usize
 pub extern "C" fn ordered_value(keys: &[u64], wanted: &[u64]) -> usize
     ensures { λ r. ⌜ r ≡ countBy (has-value (filled empty (now (keys .entry)))) (now (wanted .entry)) ⌝ }
 {
-    let mut cells = [UNUSED; 32_768];
+    let mut cells = [UNUSED; CELLS];
     let mut store = Ordered::new(&mut cells);
     put_all(&mut store, keys);
     value_all(&store, wanted)
@@ -46,7 +49,7 @@ pub extern "C" fn ordered_value(keys: &[u64], wanted: &[u64]) -> usize
 pub extern "C" fn ordered_above(keys: &[u64], wanted: &[u64]) -> usize
     ensures { λ r. ⌜ r ≡ countBy (has-above (filled empty (now (keys .entry)))) (now (wanted .entry)) ⌝ }
 {
-    let mut cells = [UNUSED; 32_768];
+    let mut cells = [UNUSED; CELLS];
     let mut store = Ordered::new(&mut cells);
     put_all(&mut store, keys);
     above_all(&store, wanted)
@@ -57,7 +60,7 @@ pub extern "C" fn ordered_above(keys: &[u64], wanted: &[u64]) -> usize
 pub extern "C" fn ordered_take(keys: &[u64], wanted: &[u64]) -> usize
     ensures { λ r. ⌜ r ≡ taken (filled empty (now (keys .entry))) (now (wanted .entry)) ⌝ }
 {
-    let mut cells = [UNUSED; 32_768];
+    let mut cells = [UNUSED; CELLS];
     let mut store = Ordered::new(&mut cells);
     put_all(&mut store, keys);
     take_all(&mut store, wanted)
