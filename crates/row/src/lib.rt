@@ -4,8 +4,6 @@ mod blocks;
 mod ring;
 mod row;
 mod search;
-#[cfg(test)]
-mod tests;
 
 pub use row::Row;
 pub use search::Predicate;

@@ -4,6 +4,3 @@ mod split;
 pub use split::Split;
 pub use split::SplitChains;
 pub use split::SplitNeighbours;
-
-#[cfg(test)]
-mod tests;

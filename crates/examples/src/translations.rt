@@ -1,7 +1,15 @@
 // The keys of a few answers.
-use super::*;
-use crate::length::LengthKeyDebug;
-use crate::length::LengthKeyPartialEq;
+use keys::Key;
+use keys::Length;
+use keys::LengthKey;
+use keys::LengthKeyDebug;
+use keys::LengthKeyOrder;
+use keys::LengthKeyPartialEq;
+use keys::LengthTranslator;
+use keys::Letters;
+use keys::LettersKeyOrder;
+use keys::LettersTranslator;
+use keys::Translator;
 use std::test::*;
 
 #[test]

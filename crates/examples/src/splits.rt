@@ -1,7 +1,4 @@
 // What a split does on examples.
-use crate::Split;
-use crate::SplitChains;
-use crate::SplitNeighbours;
 use chains::ChainStore;
 use chains::OrderedStore;
 use chains::Refusal;
@@ -11,6 +8,9 @@ use ordered::Cell;
 use ordered::Ordered;
 use ordered::OrderedChains;
 use ordered::OrderedNeighbours;
+use split::Split;
+use split::SplitChains;
+use split::SplitNeighbours;
 use std::test::*;
 
 fn key(number: u64) -> LettersKey {

@@ -1,7 +1,7 @@
 // What a row does on examples.
 ghost use lib.Dec.{ltb};
-use crate::Predicate;
-use crate::Row;
+use row::Predicate;
+use row::Row;
 use std::test::*;
 
 #[derive(Clone, Copy)]
