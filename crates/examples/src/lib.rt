@@ -1,4 +1,5 @@
 //! The library on examples. They stand in a crate of their own, since a crate with tests is proved twice.
+#![tactic(auto)]
 #[cfg(test)]
 mod registers;
 #[cfg(test)]

@@ -1,6 +1,4 @@
 // The keys of a few answers.
-use keys::length::Key as _;
-use keys::letters::Key as _;
 use keys::{Key, Length, LengthKey, Letters, Translator};
 
 #[test]

@@ -1,4 +1,6 @@
 //! Translated keys, their order and hash numbers, and the translators that make them from bytes.
+#![tactic(auto)]
+
 mod gather;
 mod key;
 mod length;
@@ -6,8 +8,6 @@ mod letters;
 mod mix;
 mod translator;
 
-use crate::length::Key as _;
-use crate::letters::Key as _;
 pub use key::Key;
 pub use length::{Length, LengthKey};
 pub use letters::{Letters, LettersKey};

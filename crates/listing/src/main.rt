@@ -1,4 +1,5 @@
 //! Reads places under their answers, and lists them by the LETTERS keys of the answers.
+#![tactic(auto)]
 
 mod listing;
 mod parser;

@@ -1,4 +1,5 @@
 //! The print register: which issues of which papers printed a clue, under LENGTH keys.
+#![tactic(auto)]
 mod store;
 mod usage;
 
