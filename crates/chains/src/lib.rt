@@ -1,6 +1,7 @@
 //! What a store of sequences means, whatever holds it: the traits that stores implement and the
 //! definitions and laws that their contracts share.
 #![tactic(auto)]
+
 mod laws;
 mod refusal;
 mod store;
