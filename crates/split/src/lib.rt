@@ -1,5 +1,6 @@
 //! A store made of two: the keys below a boundary in one, all others in the other.
 #![tactic(auto)]
+
 mod split;
 
 pub use split::Split;

@@ -1,22 +1,22 @@
 use Rattle.split.proofs.Neighbours.{above_low, above_high}
 use Rattle.split.proofs.split.neighbours.Split+A+B+A+Key.next_key.Goals as goal
 
-pub returns-then-not-is-low : goal.returns-then-not-is-low
-returns-then-not-is-low g c v =
+pub returns-then-not-is_low : goal.returns-then-not-is_low
+returns-then-not-is_low g c v =
     let self = c.args.self.now in
-    let e = above_high g.met.A.Key.Key.order (g.A.ChainStore.state self.low).contents (g.B.ChainStore.state self.high).contents c.args.key self.boundary v.2.below c.if-not-is-low.ensures.side in
+    let e = above_high g.met.A.Key.Key.order (g.A.ChainStore.state self.low).contents (g.B.ChainStore.state self.high).contents c.args.key self.boundary v.2.below c.if-not-is_low.ensures.side in
     rw e (c.above.ensures v.1)
 
 pub returns-in-Some : goal.returns-in-Some
 returns-in-Some g c v =
     let self = c.args.self.now in
-    let e = above_low g.met.A.Key.Key.order (g.A.ChainStore.state self.low).contents (g.B.ChainStore.state self.high).contents c.args.key self.boundary v.2.from c.if-not-is-low.ensures.side in
+    let e = above_low g.met.A.Key.Key.order (g.A.ChainStore.state self.low).contents (g.B.ChainStore.state self.high).contents c.args.key self.boundary v.2.from c.if-not-is_low.ensures.side in
     let h = c.in-Some.ensures v.0 in
     rw (e, ← h)
 
 pub returns-in-None : goal.returns-in-None
 returns-in-None g c v =
     let self = c.args.self.now in
-    let e = above_low g.met.A.Key.Key.order (g.A.ChainStore.state self.low).contents (g.B.ChainStore.state self.high).contents c.args.key self.boundary v.2.from c.if-not-is-low.ensures.side in
+    let e = above_low g.met.A.Key.Key.order (g.A.ChainStore.state self.low).contents (g.B.ChainStore.state self.high).contents c.args.key self.boundary v.2.from c.if-not-is_low.ensures.side in
     let n = c.in-None.ensures v.0 in
     rw (e, ← n) (c.first.ensures v.1)
