@@ -10,7 +10,7 @@ loop-i-init g c = (refl, emptied_none c.args.room c.args.cells.now c.requires.sm
 pub loop-i-preserved : goal.loop-i-preserved
 loop-i-preserved g c = (
   drop-set-lt c.args.room c.loop-i.cells c.loop-i.i _ (omega arith) ∙ c.loop-i.invariant.0,
-  emptied_more c.args.room c.loop-i.cells c.index-cells-i.result c.loop-i.free c.loop-i.i c.link-to-free.result (omega arith) (omega arith) c.requires.small c.link-to-free.ensures c.loop-i.invariant.1,
+  emptied_more c.args.room c.loop-i.cells c.index-cells-i.result c.loop-i.free c.loop-i.i c.link_to-free.result (omega arith) (omega arith) c.requires.small c.link_to-free.ensures c.loop-i.invariant.1,
 )
 
 pub returns : goal.returns

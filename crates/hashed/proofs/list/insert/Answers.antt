@@ -12,5 +12,5 @@ returns g c =
       past = c.relink.ensures.past;
       free = sym (read_next n cells x c.index-cells-x.result (omega arith) c.index-cells-x.is);
       links = λ apart. subst (λ (to : Option ℕ). Relinked n cells c.relink.new.cells c.args.place.bucket c.args.place.previous x (target n c.args.place.link) (c.args.key, c.args.value) to)
-          (target_of n c.link-to.result x c.link-to.ensures c.requires.cell) (c.relink.ensures.links apart);
+          (target_of n c.link_to.result x c.link_to.ensures c.requires.cell) (c.relink.ensures.links apart);
     }

@@ -2,8 +2,8 @@ use Rattle.std.proofs.Common.{◌<◌, length, arith, length-set, rules}
 use Rattle.hashed.proofs.Writes.{relinked_first, relinked_next, past_both}
 use Rattle.hashed.proofs.list.relink.Goals as goal
 
-pub offset-bounds-cells-y : goal.offset-bounds-cells-y
-offset-bounds-cells-y g c =
+pub offset_bounds-cells-y : goal.offset_bounds-cells-y
+offset_bounds-cells-y g c =
     let p = c.requires.place.previous c.in-Some.y c.in-Some.is in
     let h : c.in-Some.y < length c.args.cells.now = omega arith in
     search rules

@@ -17,7 +17,7 @@ loop-steps-init g c =
     let first = read_first n cells b r (omega arith) c.index-cells-bucket.is ∙ ap (λ (q : Cell g.row.K.Denot g.row.V.Denot). target n q.first) c.index-cells-bucket.is in (
       omega arith,
       λ y e. (let z : ◌≡◌ {A = ℕ} 0 1 = cc in absurd (omega arith)),
-      λ l. walk_start g.row.K-Key.less n cells (bucket_of n cells b) c.args.key c.args.rank _ n
+      λ l. walk_start g.K.Key.less n cells (bucket_of n cells b) c.args.key c.args.rank _ n
           (subst (λ (t : Option ℕ). Linked (next_of n cells) t (bucket_of n cells b)) first l) (walk-length (next_of n cells) n (first_of n cells b)),
     )
 
@@ -30,10 +30,10 @@ loop-steps-preserved-else-passed-rank g c =
     let at : target n c.loop-steps.link ≡ Some x = sym c.follow.ensures ∙ c.in-Some.is in
     let lx = target_in n c.loop-steps.link x at in
     let h : x < length cells = omega arith in
-    let t : same g.row.K-Key.less r.key c.args.key ≡ true = sym c.is-same.ensures ∙ c.if-is-same.true in (
+    let t : same g.K.Key.less r.key c.args.key ≡ true = sym c.is_same.ensures ∙ c.if-is_same.true in (
       omega (arith, c.loop-steps.invariant.0),
       λ y e. (let q : x ≡ y = cc in omega arith),
-      λ l. walk_next g.row.K-Key.less n cells (bucket_of n cells c.args.bucket) c.args.key c.args.rank c.loop-steps.previous (target n c.loop-steps.link) _ x c.loop-steps.passed _ c.loop-steps.steps _ (r.key, r.value) true
+      λ l. walk_next g.K.Key.less n cells (bucket_of n cells c.args.bucket) c.args.key c.args.rank c.loop-steps.previous (target n c.loop-steps.link) _ x c.loop-steps.passed _ c.loop-steps.steps _ (r.key, r.value) true
           (c.loop-steps.invariant.2 l) at (read_entry n cells x r h c.index-cells-x.is) t refl (omega (arith, c.loop-steps.invariant.0)) (read_next n cells x r h c.index-cells-x.is) (omega arith),
     )
 
@@ -46,10 +46,10 @@ loop-steps-preserved g c =
     let at : target n c.loop-steps.link ≡ Some x = sym c.follow.ensures ∙ c.in-Some.is in
     let lx = target_in n c.loop-steps.link x at in
     let h : x < length cells = omega arith in
-    let t : same g.row.K-Key.less r.key c.args.key ≡ false = sym c.is-same.ensures ∙ c.if-is-same.false in (
+    let t : same g.K.Key.less r.key c.args.key ≡ false = sym c.is_same.ensures ∙ c.if-is_same.false in (
       c.loop-steps.invariant.0,
       λ y e. (let q : x ≡ y = cc in omega arith),
-      λ l. walk_next g.row.K-Key.less n cells (bucket_of n cells c.args.bucket) c.args.key c.args.rank c.loop-steps.previous (target n c.loop-steps.link) _ x c.loop-steps.passed _ c.loop-steps.steps _ (r.key, r.value) false
+      λ l. walk_next g.K.Key.less n cells (bucket_of n cells c.args.bucket) c.args.key c.args.rank c.loop-steps.previous (target n c.loop-steps.link) _ x c.loop-steps.passed _ c.loop-steps.steps _ (r.key, r.value) false
           (c.loop-steps.invariant.2 l) at (read_entry n cells x r h c.index-cells-x.is) t (omega arith) c.loop-steps.invariant.0 (read_next n cells x r h c.index-cells-x.is) (omega arith),
     )
 
@@ -60,7 +60,7 @@ returns-after-loop-steps g c =
     record {
       bucket = refl;
       previous = c.loop-steps.invariant.1;
-      found = λ l. walk_out g.row.K-Key.less n cells (bucket_of n cells c.args.bucket) c.args.key c.args.rank c.loop-steps.previous (target n c.loop-steps.link) c.loop-steps.passed c.loop-steps.steps (omega arith) (c.loop-steps.invariant.2 l);
+      found = λ l. walk_out g.K.Key.less n cells (bucket_of n cells c.args.bucket) c.args.key c.args.rank c.loop-steps.previous (target n c.loop-steps.link) c.loop-steps.passed c.loop-steps.steps (omega arith) (c.loop-steps.invariant.2 l);
     }
 
 pub returns-then-passed-rank : goal.returns-then-passed-rank
@@ -72,10 +72,10 @@ returns-then-passed-rank g c =
     let at : target n c.loop-steps.link ≡ Some x = sym c.follow.ensures ∙ c.in-Some.is in
     let lx = target_in n c.loop-steps.link x at in
     let h : x < length cells = omega arith in
-    let t : same g.row.K-Key.less r.key c.args.key ≡ true = sym c.is-same.ensures ∙ c.if-is-same.true in
+    let t : same g.K.Key.less r.key c.args.key ≡ true = sym c.is_same.ensures ∙ c.if-is_same.true in
     record {
       bucket = refl;
       previous = c.loop-steps.invariant.1;
-      found = λ l. walk-found g.row.K-Key.less n cells (bucket_of n cells c.args.bucket) c.args.key c.args.rank c.loop-steps.previous (target n c.loop-steps.link) x c.loop-steps.passed c.loop-steps.steps (r.key, r.value)
+      found = λ l. walk-found g.K.Key.less n cells (bucket_of n cells c.args.bucket) c.args.key c.args.rank c.loop-steps.previous (target n c.loop-steps.link) x c.loop-steps.passed c.loop-steps.steps (r.key, r.value)
           (c.loop-steps.invariant.2 l) at (read_entry n cells x r h c.index-cells-x.is) t c.if-passed-rank.true;
     }

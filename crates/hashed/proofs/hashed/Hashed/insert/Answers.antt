@@ -15,21 +15,21 @@ returns-then-place-rank g c =
     let p = c.find-place.result in
     record {
       valid = λ v. v;
-      effect = λ v. put_past g.row.K-Key.less (state g.row.K-Key.less self) c.args.key c.args.rank c.args.value
-          (past_end g.met.K.Key.order g.row.K-Key.hash n self.cells.now c.args.key c.args.rank p v.1 c.find-place.ensures.range (c.find-place.ensures.place v.0) (target n p.link) refl c.if-place-rank.true);
+      effect = λ v. put_past g.K.Key.less (state g.K.Key.less self) c.args.key c.args.rank c.args.value
+          (past_end g.met.K.Key.order g.K.Key.hash n self.cells.now c.args.key c.args.rank p v.1 c.find-place.ensures.range (c.find-place.ensures.place v.0) (target n p.link) refl c.if-place-rank.true);
       refused = λ _. refl;
       outside = refl;
     }
 
-pub returns-in-default : goal.returns-in-default
-returns-in-default g c =
+pub returns-in_default : goal.returns-in_default
+returns-in_default g c =
     let self = c.args.self.now in
     let n = room self in
     let p = c.find-place.result in
     let none : target n self.free ≡ None = subst (λ (i : ℕ). target i self.free ≡ None) c.room-room.ensures (sym c.follow.ensures ∙ c.in-default.is) in
     record {
       valid = λ v. v;
-      effect = λ v. put_refuses g.met.K.Key.order g.row.K-Key.hash n self.cells.now c.args.key c.args.rank p v.1 c.find-place.ensures.range (c.find-place.ensures.place v.0) (omega arith) self.free v.0 c.args.value none c.if-place-rank.false;
+      effect = λ v. put_refuses g.met.K.Key.order g.K.Key.hash n self.cells.now c.args.key c.args.rank p v.1 c.find-place.ensures.range (c.find-place.ensures.place v.0) (omega arith) self.free v.0 c.args.value none c.if-place-rank.false;
       refused = λ _. refl;
       outside = refl;
     }
@@ -37,8 +37,8 @@ returns-in-default g c =
 pub returns : goal.returns
 returns g c =
     let self = c.args.self.now in
-    let less = g.row.K-Key.less in
-    let hash = g.row.K-Key.hash in
+    let less = g.K.Key.less in
+    let hash = g.K.Key.hash in
     let old = self.cells.now in
     let cells = c.insert-self.new.cells in
     let n = room self in

@@ -9,5 +9,5 @@ returns g c =
     let self = c.args.self.now in
     let n = room self in
     let p = c.find.result in
-    λ v. passes_all g.met.K.Key.order g.row.K-Key.hash n self.cells.now c.args.key 32768 p v.1 c.find.ensures.range (c.find.ensures.place v.0)
+    λ v. passes_all g.met.K.Key.order g.K.Key.hash n self.cells.now c.args.key 32768 p v.1 c.find.ensures.range (c.find.ensures.place v.0)
     (target n self.free) v.0 (omega arith) (omega arith) (target n p.link) refl

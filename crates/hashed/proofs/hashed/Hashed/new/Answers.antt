@@ -6,15 +6,15 @@ use Rattle.hashed.proofs.hashed.Hashed.new.Goals as goal
 
 pub returns : goal.returns
 returns g c =
-    let cells = c.free-all-free.new.cells in
-    let n = c.room-for-room.result in
-    let free = c.free-all-free.result in
-    let same : room_of cells ≡ min (length c.args.cells.now) 32768 = ap (λ (m : ℕ). min m 32768) c.free-all-free.auto.cells in
-    let e : n ≡ room_of cells = c.room-for-room.ensures ∙ sym same in
-    let made = c.free-all-free.ensures.links in
+    let cells = c.free_all-free.new.cells in
+    let n = c.room_for-room.result in
+    let free = c.free_all-free.result in
+    let same : room_of cells ≡ min (length c.args.cells.now) 32768 = ap (λ (m : ℕ). min m 32768) c.free_all-free.auto.cells in
+    let e : n ≡ room_of cells = c.room_for-room.ensures ∙ sym same in
+    let made = c.free_all-free.ensures.links in
     record {
       empty = subst (λ (m : ℕ). entries_in m cells ≡ []) e (emptied-entries n cells (target n free) made);
-      valid = subst (λ (m : ℕ). ValidCells g.row.K-Key.hash m cells free) e (emptied_good n cells (target n free) made, emptied_placed n cells (target n free) made g.row.K-Key.hash);
+      valid = subst (λ (m : ℕ). ValidCells g.K.Key.hash m cells free) e (emptied_good n cells (target n free) made, emptied_placed n cells (target n free) made g.K.Key.hash);
       room = same;
-      outside = ap (λ (t : List _). (c.args.cells.ghost_name, t)) (subst (λ (m : ℕ). drop m cells ≡ drop m c.args.cells.now) e c.free-all-free.ensures.past);
+      outside = ap (λ (t : List _). (c.args.cells.ghost_name, t)) (subst (λ (m : ℕ). drop m cells ≡ drop m c.args.cells.now) e c.free_all-free.ensures.past);
     }

@@ -8,16 +8,16 @@ use Rattle.hashed.proofs.Writes.{target_in}
 use Rattle.hashed.proofs.Calls.{at_end, set_does}
 use Rattle.hashed.proofs.hashed.Hashed.replace.Goals as goal
 
-pub returns-in-default : goal.returns-in-default
-returns-in-default g c =
+pub returns-in_default : goal.returns-in_default
+returns-in_default g c =
     let self = c.args.self.now in
     let n = room self in
     let p = c.find-place.result in
     let none : target n p.link ≡ None = subst (λ (i : ℕ). target i p.link ≡ None) c.room-room.ensures (sym c.follow.ensures ∙ c.in-default.is) in
     record {
       valid = λ v. v;
-      effect = λ v. set_past g.row.K-Key.less (state g.row.K-Key.less self) c.args.key c.args.rank c.args.value
-          (let q = at_end g.met.K.Key.order g.row.K-Key.hash n self.cells.now c.args.key c.args.rank p v.1 c.find-place.ensures.range (c.find-place.ensures.place v.0) none in
+      effect = λ v. set_past g.K.Key.less (state g.K.Key.less self) c.args.key c.args.rank c.args.value
+          (let q = at_end g.met.K.Key.order g.K.Key.hash n self.cells.now c.args.key c.args.rank p v.1 c.find-place.ensures.range (c.find-place.ensures.place v.0) none in
           let m = (c.find-place.ensures.place v.0).found.most in omega (arith, q, m));
       refused = λ _. refl;
       outside = refl;
@@ -26,8 +26,8 @@ returns-in-default g c =
 pub returns : goal.returns
 returns g c =
     let self = c.args.self.now in
-    let less = g.row.K-Key.less in
-    let hash = g.row.K-Key.hash in
+    let less = g.K.Key.less in
+    let hash = g.K.Key.hash in
     let old = self.cells.now in
     let cells = c.replace.new.cells in
     let n = room self in

@@ -11,7 +11,7 @@ use Rattle.ordered.proofs.ordered.Ordered.end.Goals as goal
 pub returns : goal.returns
 returns g c =
     let o = g.met.K.Key.order in
-    let less = g.row.K-Key.less in
+    let less = g.K.Key.less in
     let es = entries c.args.self.now in
     let k = c.args.key in
     let at : Sorted less es → c.partition-point.result ≡ not_greater less es k = λ s. c.partition-point.ensures.point (not_greater-parts o es k s) ∙ not_greater-count o es k in

@@ -8,7 +8,7 @@ use Rattle.ordered.proofs.ordered.Ordered.find.Goals as goal
 
 pub returns-in-err-cell : goal.returns-in-err-cell
 returns-in-err-cell g c =
-    let less = g.row.K-Key.less in
+    let less = g.K.Key.less in
     let self = c.args.self.now in
     let vs = values less (state less self) c.args.key in
     let past : Valid less self → length vs ≤ c.args.rank =
@@ -17,7 +17,7 @@ returns-in-err-cell g c =
 
 pub returns-then-is-less : goal.returns-then-is-less
 returns-then-is-less g c =
-    let less = g.row.K-Key.less in
+    let less = g.K.Key.less in
     let self = c.args.self.now in
     let vs = values less (state less self) c.args.key in
     let past : Valid less self → length vs ≤ c.args.rank =
@@ -27,7 +27,7 @@ returns-then-is-less g c =
 
 pub returns-else-is-less : goal.returns-else-is-less
 returns-else-is-less g c =
-    let less = g.row.K-Key.less in
+    let less = g.K.Key.less in
     let self = c.args.self.now in
     let here = λ (s : Valid less self). found g.met.K.Key.order (entries self) c.args.key c.start.result c.args.rank c.saturating-add-place.result c.in-ok-cell.cell s
     (omega (arith, items_fit self.row, room_small self.row)) (c.start.ensures.place s) c.saturating-add-place.ensures (sym c.get.ensures ∙ c.in-ok-cell.was) (sym c.if-is-less.ensures) in

@@ -17,7 +17,7 @@ returns-then-insert g c =
     let after = c.insert.new.self in
     let cell : Cell g.row.K.Denot g.row.V.Denot = record { key = c.args.key; value = c.args.value } in
     let e = c.insert.ensures.effect c.if-insert.true in
-    let P : List (Cell g.row.K.Denot g.row.V.Denot) → Type 0 = λ es. Sorted g.row.K-Key.less es in
+    let P : List (Cell g.row.K.Denot g.row.V.Denot) → Type 0 = λ es. Sorted g.K.Key.less es in
     record {
       valid = λ s p. subst P (sym e) (put_sorted o (items row) cell c.args.place c.args.rank s p.0 p.1);
       effect = λ s p. put_in o (items row) (items after) cell c.args.place c.args.rank (room row) (room after) c.insert.result s c.insert.ensures.answer c.if-insert.true p e c.insert.ensures.room;
@@ -28,7 +28,7 @@ returns-then-insert g c =
 pub returns-else-insert : goal.returns-else-insert
 returns-else-insert g c =
     let row = c.args.self.now.row in
-    let less = g.row.K-Key.less in
+    let less = g.K.Key.less in
     let same : c.insert.new.self ≡ row = c.insert.ensures.refused c.if-insert.false in
     record {
       valid = λ s _. subst (λ (r : Row (Cell g.row.K.Denot g.row.V.Denot)). Sorted less (items r)) (sym same) s;

@@ -7,7 +7,7 @@ use Rattle.ordered.proofs.ordered.Ordered.remove_all.Goals as goal
 
 pub returns : goal.returns
 returns g c =
-    let less = g.row.K-Key.less in
+    let less = g.K.Key.less in
     let P : List (Cell g.row.K.Denot g.row.V.Denot) → Type 0 = λ es. Sorted less es in
     let none = c.clear.ensures.empty in
     let same = c.clear.ensures.room in
