@@ -40,7 +40,7 @@ pub(crate) fn link_to(x: usize) -> u16
 pub(crate) fn bucket_for<K: Key>(key: K, room: usize) -> usize
     requires { 0 < room }
     ensures value { result ≡ (K.Key.hash key) % room }
-    ensures upper_bound { result < room }
+    ensures within { result < room }
 {
     (key.hash_number() % room as u64) as usize
 }

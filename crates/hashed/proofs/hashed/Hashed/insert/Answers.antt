@@ -26,7 +26,7 @@ returns-in_default g c =
     let self = c.args.self.now in
     let n = room self in
     let p = c.find-place.result in
-    let none : target n self.free ≡ None = subst (λ (i : ℕ). target i self.free ≡ None) c.room-room.ensures (sym c.follow.ensures ∙ c.in-default.is) in
+    let none : target n self.free ≡ None = subst (λ (i : ℕ). target i self.free ≡ None) c.room-room.ensures (sym c.follow.ensures ∙ c.in_default.is) in
     record {
       valid = λ v. v;
       effect = λ v. put_refuses g.met.K.Key.order g.K.Key.hash n self.cells.now c.args.key c.args.rank p v.1 c.find-place.ensures.range (c.find-place.ensures.place v.0) (omega arith) self.free v.0 c.args.value none c.if-place-rank.false;

@@ -13,7 +13,7 @@ returns-in_default g c =
     let self = c.args.self.now in
     let n = room self in
     let p = c.find-place.result in
-    let none : target n p.link ≡ None = subst (λ (i : ℕ). target i p.link ≡ None) c.room-room.ensures (sym c.follow.ensures ∙ c.in-default.is) in
+    let none : target n p.link ≡ None = subst (λ (i : ℕ). target i p.link ≡ None) c.room-room.ensures (sym c.follow.ensures ∙ c.in_default.is) in
     record {
       valid = λ v. v;
       effect = λ v. take_past g.K.Key.less (state g.K.Key.less self) c.args.key c.args.rank
