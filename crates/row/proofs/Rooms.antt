@@ -1,8 +1,8 @@
 -- The cells up to the room, those past it, and what a row holds.
-use Rattle.std.proofs.Common.{◌≡◌, ℕ, suc, ◌-◌, ◌<◌, ◌≤◌, min, List, [], ◌++◌, length, get_or, take, drop, Some, None, sym, ap, ◌∙◌, subst, arith}
-use Rattle.std.specs.List.{remove, slice_get}
-use Rattle.std.proofs.lemmas.Option.{slice_get-get_or, slice_get_past}
-use Rattle.std.proofs.lemmas.List.{length-take-le, length-append, length-drop, take_at, drop_at, take_all, drop_all, append-nil}
+use Rattle.std.proofs.Common.{◌≡◌, ℕ, ◌-◌, ◌<◌, ◌≤◌, min, List, [], ◌++◌, length, get_or, take, drop, Some, sym, ap, ◌∙◌, arith}
+use Rattle.std.specs.List.{slice_get}
+use Rattle.std.proofs.lemmas.Option.{slice_get-get_or}
+use Rattle.std.proofs.lemmas.List.{length-take-le, length-append, length-drop, take_at, drop_at}
 use Rattle.row.specs.Rings.{rings, first_items, room_of, Headed}
 use Rattle.row.specs.Row.{items, room}
 use Rattle.row.specs.declared.row.Row.{Row}

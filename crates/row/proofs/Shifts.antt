@@ -1,9 +1,9 @@
 -- What a shift of a run of cells leaves, and a cell put into or taken out of a ring.
-use Rattle.std.proofs.Common.{◌≡◌, ℕ, zero, suc, ◌+◌, ◌-◌, ◌*◌, ◌<◌, ◌≤◌, ◌⊎◌, List, [], ◌∷◌, ◌++◌, length, get_or, take, drop, set, sym, refl, ap, ◌∙◌, subst, inl, inr, add-one, arith}
-use lib.Seq.{take-append-add, drop-append-add, paste}
+use Rattle.std.proofs.Common.{◌≡◌, ℕ, suc, ◌+◌, ◌-◌, ◌<◌, ◌≤◌, ◌⊎◌, List, [], ◌∷◌, ◌++◌, length, get_or, take, drop, set, sym, refl, ap, ◌∙◌, subst, inl, inr, add-one, arith}
+use lib.Seq.{take-append-add, paste}
 use borrow.Rule.Slice.PartMut.{put_mid}
 use Rattle.std.specs.List.{insert}
-use Rattle.std.proofs.lemmas.List.{take_at, drop_at, set_at, get_or_at, append_assoc, append-nil, take-append-drop, take-append-le, drop-append-le, drop_more, take_more, drop-drop, length-take-le, length-drop, length-append, length-take, nil_from_length, take_all, drop_all, take_rest, set_split, set-set, set-get_or, get_or-set_same, drop-set, take-set, length-set}
+use Rattle.std.proofs.lemmas.List.{take_at, drop_at, set_at, append_assoc, append-nil, take-append-drop, drop_more, take_more, drop-drop, length-take-le, length-drop, length-append, nil_from_length, take_all, drop_all, set-set, set-get_or, get_or-set_same, drop-set, take-set, length-set}
 use Rattle.row.proofs.Lists.{inserted_mid, length_put_mid, put_back}
 use Rattle.row.proofs.Rings.{length-ring}
 use Rattle.row.specs.Rings.{ring}

@@ -1,4 +1,4 @@
-use Rattle.std.proofs.Common.{◌+◌, ◌-◌, ◌*◌, ◌/◌, ◌<◌, ◌≤◌, length}
+use Rattle.std.proofs.Common.{◌+◌, ◌-◌, ◌/◌, ◌<◌, ◌≤◌, length}
 use Rattle.row.specs.Rings.{rings, Headed}
 use Rattle.row.proofs.Cascade.{Carried}
 use Rattle.row.proofs.blocks.remove.Given as goal

@@ -1,4 +1,4 @@
-use Rattle.std.proofs.Common.{◌≡◌, length, ◌∙◌, arith}
+use Rattle.std.proofs.Common.{length, ◌∙◌}
 use Rattle.row.specs.Rings.{ring}
 use Rattle.row.proofs.Rings.{length-ring}
 use Rattle.row.proofs.Shifts.{moved_on}
@@ -7,8 +7,8 @@ use Rattle.row.proofs.ring.rotate_in.Goals as goal
 pub returns : goal.returns
 returns g c =
     let z = c.args.block.now in
-    let f = c.rotate-in-front-back in
-    let s = c.remove-shift in
+    let f = c.rotate_in_front-back in
+    let s = c.remove_shift in
     let b = f.result.0 in
     let l1 = f.auto.block in
     let l2 = s.auto.block in

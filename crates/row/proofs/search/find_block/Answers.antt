@@ -1,4 +1,4 @@
-use Rattle.std.proofs.Common.{◌≡◌, ℕ, ◌+◌, ◌-◌, ◌*◌, ◌/◌, ◌^◌, ◌<◌, ◌≤◌, cond, length, get_or, sym, ◌∙◌, subst, arith, pow_pos}
+use Rattle.std.proofs.Common.{◌≡◌, ℕ, ◌+◌, ◌-◌, ◌*◌, ◌/◌, ◌^◌, cond, get_or, sym, ◌∙◌, subst, arith, pow_pos}
 use Rattle.row.specs.Partition.{Window}
 use Rattle.row.specs.Rings.{rings}
 use Rattle.row.proofs.Windows.{pow_half, bit_le, first_block, halved_block}
@@ -16,11 +16,11 @@ loop-j-init g c =
     elim c.if-test.branch [ then-test w ↦ w.b-is ∙ rw w.if-test.true | else-test w ↦ w.b-is ∙ rw w.if-test.false ] in (
       omega arith,
       omega (arith, bit_le t m),
-      λ part. first_block (g.P.Predicate.holds c.args.p.now) (rings 256 c.args.heads.now c.args.cells.now) n 256 h m c.if-test.b c.block-first.result t part (omega arith) c.block-first.ensures c.test.ensures (omega arith) (omega arith) l,
+      λ part. first_block (g.P.Predicate.holds c.args.p.now) (rings 256 c.args.heads.now c.args.cells.now) n 256 h m c.if-test.b c.block_first.result t part (omega arith) c.block_first.ensures c.test.ensures (omega arith) (omega arith) l,
     )
 
-pub block-first-requires-in-loop-j : goal.block-first-requires-in-loop-j
-block-first-requires-in-loop-j g c = let q = pow_half c.loop-j.j c.loop-j-test.true in let pp = pow_pos (c.loop-j.j - 1) in record { within = omega arith; heads = c.requires.heads }
+pub block_first-requires-in-loop-j : goal.block_first-requires-in-loop-j
+block_first-requires-in-loop-j g c = let q = pow_half c.loop-j.j c.loop-j-test.true in let pp = pow_pos (c.loop-j.j - 1) in record { within = omega arith; heads = c.requires.heads }
 
 pub loop-j-preserved : goal.loop-j-preserved
 loop-j-preserved g c =
@@ -34,12 +34,12 @@ loop-j-preserved g c =
     let p = g.P.Predicate.holds c.args.p.now in
     let xs = rings 256 c.args.heads.now c.args.cells.now in
     let pe : c.power-in-loop-j.result ≡ h = c.power-in-loop-j.ensures in
-    let E = subst (λ (v : ℕ). (d : _) → c.block-first-in-loop-j.result ≡ get_or xs ((b + v) * 256) d) pe c.block-first-in-loop-j.ensures in
-    let r : c.power-if-b.result ≡ cond t h 0 = c.power-if-b.ensures in (
+    let E = subst (λ (v : ℕ). (d : _) → c.block_first-in-loop-j.result ≡ get_or xs ((b + v) * 256) d) pe c.block_first-in-loop-j.ensures in
+    let r : c.power_if-b.result ≡ cond t h 0 = c.power_if-b.ensures in (
       omega arith,
       omega arith,
       λ part. let W : Window p xs n (b * 256) ((b + (h + h)) * 256) = subst (λ (v : ℕ). Window p xs n (b * 256) ((b + v) * 256)) q (c.loop-j.invariant.2 part) in
-          let V = halved_block p xs n 256 h b c.block-first-in-loop-j.result t part W (omega arith) E c.test-in-loop-j.ensures in
+          let V = halved_block p xs n 256 h b c.block_first-in-loop-j.result t part W (omega arith) E c.test-in-loop-j.ensures in
           subst (λ (v : ℕ). Window p xs n ((b + v) * 256) ((b + v + h) * 256)) (sym r) V,
     )
 

@@ -8,14 +8,14 @@ use Rattle.row.proofs.Windows.{partitioned_front, widened, narrowed, counted}
 use Rattle.row.proofs.search.partition_point.Goals as goal
 use Rattle.row.proofs.search.partition_point.Goals.{then-len-end, else-len-end}
 
-pub head-of-head-requires : goal.head-of-head-requires
-head-of-head-requires g c = c.requires.heads c.find-block-b.result (omega arith)
+pub head_of-head-requires : goal.head_of-head-requires
+head_of-head-requires g c = c.requires.heads c.find_block-b.result (omega arith)
 
-pub ring-partition-point-requires : goal.ring-partition-point-requires
-ring-partition-point-requires g c =
-    let b = c.find-block-b.result in
+pub ring_partition_point-requires : goal.ring_partition_point-requires
+ring_partition_point-requires g c =
+    let b = c.find_block-b.result in
     let a = b * 256 in
-    let e = c.block-end-end.result in
+    let e = c.block_end-end.result in
     let cs = c.args.cells.now in
     let stop = c.if-len-end.stop in
     let st : stop ≡ min c.args.len e = elim c.if-len-end.branch [ then-len-end w ↦ omega (arith, w.stop-is) | else-len-end w ↦ omega (arith, w.stop-is) ] in
@@ -26,9 +26,9 @@ ring-partition-point-requires g c =
 
 pub returns : goal.returns
 returns g c =
-    let b = c.find-block-b.result in
+    let b = c.find_block-b.result in
     let a = b * 256 in
-    let e = c.block-end-end.result in
+    let e = c.block_end-end.result in
     let cs = c.args.cells.now in
     let hs = c.args.heads.now in
     let n = c.args.len in
@@ -37,21 +37,21 @@ returns g c =
     let lt : a < length cs = omega arith in
     let inside : (o : ℕ) → o < stop - a → o < e - a = λ o ol. omega arith in
     let p = g.P.Predicate.holds c.args.p.now in
-    let r = c.ring-partition-point.result in
+    let r = c.ring_partition_point.result in
     let xs = rings 256 hs cs in
     let z = take (e - a) (drop a cs) in
-    let ys = ring c.head-of-head.result z in
-    let same : ring c.head-of-head.result z ≡ ring (get_or hs b 0) z = ap (λ (v : ℕ). ring v z) c.head-of-head.ensures ∙ ring_head hs b (e - a) z (length_block cs a e (omega arith) (omega arith)) in
+    let ys = ring c.head_of-head.result z in
+    let same : ring c.head_of-head.result z ≡ ring (get_or hs b 0) z = ap (λ (v : ℕ). ring v z) c.head_of-head.ensures ∙ ring_head hs b (e - a) z (length_block cs a e (omega arith) (omega arith)) in
     let far : (n ≤ a + (stop - a)) ⊎ ((b + 1) * 256 ≤ a + (stop - a)) =
     elim (cases_lt stop ((b + 1) * 256)) [ inl l ↦ inl (omega arith) | inr l ↦ inr (omega arith) ] in
-    let le : a + r ≤ n = omega (arith, c.ring-partition-point.ensures.within) in
+    let le : a + r ≤ n = omega (arith, c.ring_partition_point.ensures.within) in
     let l = length-rings 256 hs cs in
-    let E : (o : ℕ) (d : _) → o < stop - a → get_or xs (a + o) d ≡ get_or ys o d = λ o d ol. of_block 256 hs cs b e c.requires.heads lt c.block-end-end.ensures o d (inside o ol) ∙ ap (λ (t : List _). get_or t o d) (sym same) in
+    let E : (o : ℕ) (d : _) → o < stop - a → get_or xs (a + o) d ≡ get_or ys o d = λ o d ol. of_block 256 hs cs b e c.requires.heads lt c.block_end-end.ensures o d (inside o ol) ∙ ap (λ (t : List _). get_or t o d) (sym same) in
     record {
       within = le;
       point = λ part.
           (let P = partitioned_front p xs n (omega arith) part in
-          let V = c.ring-partition-point.ensures.window (narrowed p xs ys n (stop - a) a E (omega arith) P) in
-          let W = widened p xs ys n (stop - a) a ((b + 1) * 256) r E (c.find-block-b.ensures.window P) V c.ring-partition-point.ensures.within far in
+          let V = c.ring_partition_point.ensures.window (narrowed p xs ys n (stop - a) a E (omega arith) P) in
+          let W = widened p xs ys n (stop - a) a ((b + 1) * 256) r E (c.find_block-b.ensures.window P) V c.ring_partition_point.ensures.within far in
           counted p xs n (a + r) W le (omega arith));
     }

@@ -3,4 +3,4 @@ use Rattle.row.proofs.row.Row.capacity.Goals as goal
 
 pub returns : goal.returns
 unfolding room
-returns g c = c.room-for.ensures
+returns g c = c.room_for.ensures

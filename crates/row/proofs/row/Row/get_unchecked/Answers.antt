@@ -4,9 +4,9 @@ use Rattle.row.specs.Row.{items, room}
 use Rattle.row.proofs.Rooms.{front_headed, length_front_cells, items_fit, an_item}
 use Rattle.row.proofs.row.Row.get_unchecked.Goals as goal
 
-pub slice-bounds-read-end : goal.slice-bounds-read-end
+pub slice_bounds-read-end : goal.slice_bounds-read-end
 unfolding room
-slice-bounds-read-end g c = omega arith
+slice_bounds-read-end g c = omega arith
 
 pub read-requires : goal.read-requires
 unfolding room

@@ -5,9 +5,9 @@ use Rattle.row.specs.Row.{items, room, outside}
 use Rattle.row.proofs.Rooms.{front_headed, length_front_cells, length-items, replaced, changed}
 use Rattle.row.proofs.row.Row.insert_unchecked.Goals as goal
 
-pub slice-bounds-insert-end : goal.slice-bounds-insert-end
+pub slice_bounds-insert-end : goal.slice_bounds-insert-end
 unfolding room
-slice-bounds-insert-end g c = omega arith
+slice_bounds-insert-end g c = omega arith
 
 pub insert-requires : goal.insert-requires
 unfolding room

@@ -1,5 +1,5 @@
 use Rattle.std.proofs.Common.{arith}
-use Rattle.row.proofs.Rooms.{length-items, items_fit}
+use Rattle.row.proofs.Rooms.{length-items}
 use Rattle.row.proofs.row.Row.len.Goals as goal
 
 pub returns : goal.returns

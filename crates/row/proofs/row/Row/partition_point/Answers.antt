@@ -4,13 +4,13 @@ use Rattle.row.specs.Row.{room}
 use Rattle.row.proofs.Rooms.{front_headed, length_front_cells, items-here}
 use Rattle.row.proofs.row.Row.partition_point.Goals as goal
 
-pub slice-bounds-partition-point-end : goal.slice-bounds-partition-point-end
+pub slice_bounds-partition_point-end : goal.slice_bounds-partition_point-end
 unfolding room
-slice-bounds-partition-point-end g c = omega arith
+slice_bounds-partition_point-end g c = omega arith
 
-pub partition-point-requires : goal.partition-point-requires
+pub partition_point-requires : goal.partition_point-requires
 unfolding room
-partition-point-requires g c =
+partition_point-requires g c =
     let r = c.args.self.now in
     let h : length r.heads ≡ 128 = omega arith in
     record {
@@ -22,6 +22,6 @@ pub returns : goal.returns
 returns g c =
     let p = g.P.Predicate.holds c.args.p.now in
     record {
-      within = omega (arith, c.partition-point.ensures.within);
-      point = subst (λ (t : List _). Partitioned p t → c.partition-point.result ≡ count_by p t) (items-here c.args.self.now c.capacity-room.result c.len-len.result c.capacity-room.ensures c.len-len.ensures.len) c.partition-point.ensures.point;
+      within = omega (arith, c.partition_point.ensures.within);
+      point = subst (λ (t : List _). Partitioned p t → c.partition_point.result ≡ count_by p t) (items-here c.args.self.now c.capacity-room.result c.len-len.result c.capacity-room.ensures c.len-len.ensures.len) c.partition_point.ensures.point;
     }

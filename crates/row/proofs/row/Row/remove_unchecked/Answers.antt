@@ -5,9 +5,9 @@ use Rattle.row.specs.Row.{items, room, outside}
 use Rattle.row.proofs.Rooms.{front_headed, length_front_cells, length-items, replaced, changed, an_item}
 use Rattle.row.proofs.row.Row.remove_unchecked.Goals as goal
 
-pub slice-bounds-remove-end : goal.slice-bounds-remove-end
+pub slice_bounds-remove-end : goal.slice_bounds-remove-end
 unfolding room
-slice-bounds-remove-end g c = omega arith
+slice_bounds-remove-end g c = omega arith
 
 pub remove-out-requires : goal.remove-out-requires
 unfolding room

@@ -5,9 +5,9 @@ use Rattle.row.specs.Row.{items, room, outside}
 use Rattle.row.proofs.Rooms.{front_headed, length_front_cells, items_fit, length-items, replaced, changed}
 use Rattle.row.proofs.row.Row.set_unchecked.Goals as goal
 
-pub slice-bounds-write-end : goal.slice-bounds-write-end
+pub slice_bounds-write-end : goal.slice_bounds-write-end
 unfolding room
-slice-bounds-write-end g c = omega arith
+slice_bounds-write-end g c = omega arith
 
 pub write-requires : goal.write-requires
 unfolding room
