@@ -1,5 +1,5 @@
 -- The fields of a line, which single spaces part.
-use Rattle.std.specs.Prelude.{◌≡◌, ℕ, cond, List, [], ◌∷◌, ◌==◌, ◌≢◌}
+use Rattle.std.specs.Prelude.{ℕ, cond, List, [], ◌∷◌, ◌==◌, ◌≢◌}
 use Rattle.std.specs.List.{AllByRecursion as All}
 
 -- no byte is a space

@@ -1,9 +1,11 @@
 // Text to a writer.
-ghost use Rattle.std.specs.Prelude.{◌≡◌, true, is_some, IfSome, None, Err};
+ghost use Rattle.std.specs.Prelude.{◌≡◌, true, is_some, IfSome, None, Err, IfOk, IfErr};
+ghost use Rattle.std.specs.IoError.{error_kind};
 
+use std::alloc::Global;
 use std::fmt::Display;
 use std::io;
-use std::io::{BufWriter, Write};
+use std::io::{BufWriter, ErrorKind, Write};
 
 /// Buffered text to a writer. After an error nothing more is written, and `finish` hands the first
 /// error on, so that a caller need not stop at each line.
@@ -13,14 +15,16 @@ pub struct Output<W: Write + Drop> {
 }
 
 impl<W: Write + Drop> Output<W> {
-    /// Nothing written yet.
-    pub fn new(writer: W) -> Output<W>
-        ensures { result.error ≡ None }
+    /// Nothing written yet. Where there is no memory for the buffer, the writer is dropped, and
+    /// nothing was written to it.
+    pub fn new(alloc: Global, writer: W) -> io::Result<Output<W>>
+        ensures ok { IfOk result (λ o. o.error ≡ None) }
+        ensures err { IfErr result (λ e. error_kind e ≡ ErrorKind.OutOfMemory) }
     {
-        Output {
-            writer: BufWriter::new(writer),
+        Ok(Output {
+            writer: BufWriter::new(alloc, writer)?,
             error: None,
-        }
+        })
     }
 
     /// Writes the text.

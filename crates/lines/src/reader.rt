@@ -1,8 +1,10 @@
 // Lines from a reader.
-ghost use Rattle.std.specs.Prelude.{◌≡◌, ◌<◌, true, false, [], is_some, is_ok, None, Ok, Err, MatchOption, OnOk};
+ghost use Rattle.std.specs.Prelude.{◌≡◌, ◌<◌, true, false, [], is_some, is_ok, None, Ok, Err, MatchOption, OnOk, IfOk, IfErr};
+ghost use Rattle.std.specs.IoError.{error_kind};
 ghost use Rattle.lines.specs.Buffer.{contents};
 
 use super::buffer::LineBuffer;
+use std::alloc::Global;
 use std::io;
 use std::io::{BufRead, BufReader, ErrorKind, Read};
 
@@ -25,17 +27,21 @@ enum Block {
 }
 
 impl<R: Read> Reader<R> {
-    /// Before the first line of the input.
-    pub fn new(input: R) -> Reader<R>
-        ensures line { contents result.line ≡ [] }
-        ensures error { result.error ≡ None }
+    /// Before the first line of the input. Where there is no memory for the buffer, the input is
+    /// dropped, and nothing of it was read.
+    pub fn new(alloc: Global, input: R) -> io::Result<Reader<R>>
+    where
+        R: Drop,
+        ensures line { IfOk result (λ r. contents r.line ≡ []) }
+        ensures error { IfOk result (λ r. r.error ≡ None) }
+        ensures err { IfErr result (λ e. error_kind e ≡ ErrorKind.OutOfMemory) }
     {
-        Reader {
-            input: BufReader::new(input),
+        Ok(Reader {
+            input: BufReader::new(alloc, input)?,
             line: LineBuffer::new(),
             budget: u64::MAX,
             error: None,
-        }
+        })
     }
 
     /// The first 257 bytes of the line that `advance` came to.
