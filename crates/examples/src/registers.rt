@@ -1,8 +1,6 @@
 // The hashed store and the register's store on examples.
 use chains::ChainStore;
 use hashed::{Cell, Hashed};
-use keys::length::Key;
-use keys::letters::Key;
 use keys::{Length, LettersKey, Translator};
 use register::{Use, register_store};
 

@@ -1,7 +1,6 @@
 // What a split does on examples.
 use chains::{ChainStore, OrderedStore, Refusal};
 use keys::LettersKey;
-use keys::letters::Key;
 use ordered::{Cell, Ordered};
 use split::Split;
 

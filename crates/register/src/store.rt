@@ -5,7 +5,6 @@ ghost use Rattle.register.specs.Store.{state, Valid, side};
 use crate::usage::Use;
 use hashed::{Cell, Hashed};
 use keys::LengthKey;
-use keys::length::Key;
 use split::Split;
 
 /// Two hashed stores, for short answers and for long ones.

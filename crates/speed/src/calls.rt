@@ -5,7 +5,6 @@ ghost use Rattle.speed.specs.Workload.{has_value, has_above};
 
 use chains::{ChainStore, OrderedStore};
 use keys::LettersKey;
-use keys::letters::Key;
 use ordered::Ordered;
 
 /// Puts each key at rank 0, and counts those accepted.

@@ -5,7 +5,6 @@ ghost use Rattle.speed.specs.Workload.{has_value, has_above};
 
 use crate::calls::{above_all, put_all, take_all, value_all};
 use keys::LettersKey;
-use keys::letters::Key;
 use ordered::{Cell, Ordered};
 
 /// The cells of each store: as many as it can use.

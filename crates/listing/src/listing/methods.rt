@@ -10,7 +10,6 @@ use super::report::{lines, totals_line};
 use super::store::{Store, put_first};
 use chains::Refusal;
 use keys::LettersKey;
-use keys::letters::Key;
 use ordered::Cell;
 use std::alloc::{AllocError, Global};
 

@@ -7,7 +7,6 @@ ghost use Rattle.keys.specs.Letters.{letters, letters_less};
 ghost use Rattle.listing.specs.Store.{Valid, contents_in, places_in, state_in};
 
 use chains::{ChainStore, OrderedStore, Refusal};
-use keys::letters::Key;
 use keys::{Letters, LettersKey, Translator};
 use ordered::Ordered;
 

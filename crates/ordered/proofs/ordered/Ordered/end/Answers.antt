@@ -14,7 +14,7 @@ returns g c =
     let less = g.K.Key.less in
     let es = entries c.args.self.now in
     let k = c.args.key in
-    let at : Sorted less es → c.partition-point.result ≡ not_greater less es k = λ s. c.partition-point.ensures.point (not_greater-parts o es k s) ∙ not_greater-count o es k in
+    let at : Sorted less es → c.partition_point.result ≡ not_greater less es k = λ s. c.partition_point.ensures.point (not_greater-parts o es k s) ∙ not_greater-count o es k in
     record {
       place = λ s. at s ∙ sym (stretch o es k);
       next = λ s. ap (λ (n : ℕ). keyed (slice_get es n)) (at s) ∙ above_is o es k s;

@@ -19,7 +19,7 @@ returns g c =
     let P : List (Cell g.row.K.Denot g.row.V.Denot) → Type 0 = λ es. Sorted g.K.Key.less es in
     record {
       valid = λ s. subst P (sym c.remove.ensures.effect) (sorted_take o (items row) c.args.place s);
-      effect = λ s p. take_out o (items row) (items after) c.args.key c.remove.result c.args.place c.args.rank (room row) (room after) c.is-some.result s p.0 p.1 c.remove.ensures.answer c.is-some.ensures c.remove.ensures.effect c.remove.ensures.room;
-      refused = λ q. let same = c.remove.ensures.refused (nothing c.remove.result (sym c.is-some.ensures ∙ q)) in λ i. record { row = same i };
+      effect = λ s p. take_out o (items row) (items after) c.args.key c.remove.result c.args.place c.args.rank (room row) (room after) c.is_some.result s p.0 p.1 c.remove.ensures.answer c.is_some.ensures c.remove.ensures.effect c.remove.ensures.room;
+      refused = λ q. let same = c.remove.ensures.refused (nothing c.remove.result (sym c.is_some.ensures ∙ q)) in λ i. record { row = same i };
       outside = c.remove.ensures.outside;
     }

@@ -8,6 +8,6 @@ returns g c =
     let o = g.met.K.Key.order in
     let es = entries c.args.self.now in
     record {
-      within = c.partition-point.ensures.within;
-      place = λ s. c.partition-point.ensures.point (smaller-parts o es c.args.key s) ∙ smaller-count o es c.args.key;
+      within = c.partition_point.ensures.within;
+      place = λ s. c.partition_point.ensures.point (smaller-parts o es c.args.key s) ∙ smaller-count o es c.args.key;
     }
