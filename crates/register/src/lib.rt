@@ -1,5 +1,6 @@
 //! The print register: which issues of which papers printed a clue, under LENGTH keys.
 #![tactic(auto)]
+
 mod store;
 mod usage;
 

@@ -11,6 +11,6 @@ returns c =
       valid = c.new-3.ensures.valid;
       empty = ap (λ (s : StoreState LengthKey Use). s.contents) e;
       sections = λ k. ap (λ (s : StoreState LengthKey Use). s.section k) e;
-      short-room = ap (λ (s : StoreState LengthKey Use). s.room 0) e ∙ c.new.ensures.room;
-      long-room = ap (λ (s : StoreState LengthKey Use). s.room 1) e ∙ c.new-2.ensures.room;
+      short_room = ap (λ (s : StoreState LengthKey Use). s.room 0) e ∙ c.new.ensures.room;
+      long_room = ap (λ (s : StoreState LengthKey Use). s.room 1) e ∙ c.new-2.ensures.room;
     }
