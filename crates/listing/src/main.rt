@@ -26,8 +26,8 @@ fn run(rt: &HostRuntime) -> io::Result<()> {
         value: 0,
     }; CELLS];
     let mut listing = Listing::new(&mut cells);
-    let mut lines = Reader::new(rt.stdin());
-    let mut out = Output::new(rt.stdout());
+    let mut lines = Reader::new(rt.alloc(), rt.stdin())?;
+    let mut out = Output::new(rt.alloc(), rt.stdout())?;
     read(&mut lines, &mut listing, &mut out);
     let report = listing.report(rt.alloc());
     if let Ok(text) = &report {

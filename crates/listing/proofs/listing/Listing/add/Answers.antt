@@ -9,11 +9,11 @@ use Rattle.listing.proofs.listing.Listing.add.Goals as goal
 same-listing : (a b : Listing) → a.store ≡ b.store → a ≡ b
 same-listing a b p = λ i. record { store = p i; valid = is_prop→PathP (λ j. ∥ Valid (p j) ∥₁) (λ j. ∥∥₁_prop) a.valid b.valid i }
 
-pub put-first-requires : goal.put-first-requires
-put-first-requires c = valid_held c.args.self.now.store c.args.self.now.valid
+pub put_first-requires : goal.put_first-requires
+put_first-requires c = valid_held c.args.self.now.store c.args.self.now.valid
 
-pub invariant-of-self : goal.invariant-of-self
-invariant-of-self c = (∣ c.put-first.ensures.valid ∣₁, tt)
+pub invariant_of-self : goal.invariant_of-self
+invariant_of-self c = (∣ c.put_first.ensures.valid ∣₁, tt)
 
 pub returns : goal.returns
-returns c = record { effect = c.put-first.ensures.effect; refused = λ q. same-listing _ c.args.self.now (c.put-first.ensures.refused q) }
+returns c = record { effect = c.put_first.ensures.effect; refused = λ q. same-listing _ c.args.self.now (c.put_first.ensures.refused q) }

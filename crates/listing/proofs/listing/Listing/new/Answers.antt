@@ -1,4 +1,4 @@
 use Rattle.listing.proofs.listing.Listing.new.Goals as goal
 
-pub invariant-of-result : goal.invariant-of-result
-invariant-of-result c = (∣ c.new.ensures.valid ∣₁, tt)
+pub invariant_of-result : goal.invariant_of-result
+invariant_of-result c = (∣ c.new.ensures.valid ∣₁, tt)

@@ -6,8 +6,8 @@ use Rattle.listing.proofs.Walks.{nth_within}
 use Rattle.listing.proofs.Texts.{spaced_more, spaced-all, places_small}
 use Rattle.listing.proofs.listing.report.line.Goals as goal
 
-pub overflow-add-rank : goal.overflow-add-rank
-overflow-add-rank c =
+pub overflow_add-rank : goal.overflow_add-rank
+overflow_add-rank c =
     let places = places_in c.args.store.now c.args.key in
     omega (arith, nth_within places c.loop-n.rank c.in-Some.n (sym c.in-Some.ensures), places_small c.args.store.now c.args.key)
 
@@ -20,7 +20,7 @@ pub loop-n-preserved : goal.loop-n-preserved
 loop-n-preserved c =
     let places = places_in c.args.store.now c.args.key in
     let text = string_bytes c.loop-n.text in
-    let pushed : string_bytes c.push-str.new.self ≡ text ++ 32 ∷ decimal c.in-Some.n =
+    let pushed : string_bytes c.push_str.new.self ≡ text ++ 32 ∷ decimal c.in-Some.n =
     c.in_ok-push-str.ensures.bytes ∙ ap (λ (bytes : List ℕ). text ++ bytes) (c.deref.ensures ∙ c.in_ok-behind-space.ensures) in
     ap (λ (bytes : List ℕ). bytes ++ spaced (drop (c.loop-n.rank + 1) places)) pushed
     ∙ spaced_more text _ places c.loop-n.rank c.in-Some.n (sym c.in-Some.ensures) c.loop-n.invariant

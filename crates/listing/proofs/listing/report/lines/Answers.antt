@@ -3,13 +3,13 @@ use Rattle.listing.specs.Store.{contents_in}
 use Rattle.listing.proofs.Texts.{held-ascending, keys_small, total-small, key_within, listed_more, listed_all}
 use Rattle.listing.proofs.listing.report.lines.Goals as goal
 
-pub overflow-add-keys : goal.overflow-add-keys
-overflow-add-keys c =
+pub overflow_add-keys : goal.overflow_add-keys
+overflow_add-keys c =
     let s = c.args.store.now in
     omega (arith, key_within (contents_in s) c.loop-next.keys c.loop-next.next (string_bytes c.loop-next.text) c.loop-next.values c.loop-next.invariant c.in-Some.key (held-ascending s) c.in-Some.is, keys_small s)
 
-pub overflow-add-values : goal.overflow-add-values
-overflow-add-values c =
+pub overflow_add-values : goal.overflow_add-values
+overflow_add-values c =
     let s = c.args.store.now in
     let more = listed_more (contents_in s) c.loop-next.keys c.loop-next.next (string_bytes c.loop-next.text) c.loop-next.values c.loop-next.invariant
     c.in-Some.key _ _ c.count.result (held-ascending s) c.in-Some.is refl refl c.count.ensures in
@@ -25,7 +25,7 @@ loop-next-preserved c =
     let s = c.args.store.now in
     let text = string_bytes c.loop-next.text in
     listed_more (contents_in s) c.loop-next.keys c.loop-next.next text c.loop-next.values c.loop-next.invariant
-    c.in-Some.key c.next-key-next.result (string_bytes c.push-str.new.self) c.count.result (held-ascending s) c.in-Some.is c.next-key-next.ensures
+    c.in-Some.key c.next_key-next.result (string_bytes c.push_str.new.self) c.count.result (held-ascending s) c.in-Some.is c.next_key-next.ensures
     (c.in_ok-push-str.ensures.bytes ∙ ap (λ (bytes : List ℕ). text ++ bytes) (c.deref.ensures ∙ c.in_ok-line.ensures)) c.count.ensures
 
 pub returns : goal.returns
