@@ -1,10 +1,10 @@
 -- The fields of a line, which single spaces part.
 use Rattle.std.specs.Prelude.{ℕ, cond, List, [], ◌∷◌, ◌==◌, ◌≢◌}
-use Rattle.std.specs.List.{AllByRecursion as All}
+use Rattle.std.specs.List.{AllByRecursion}
 
 -- no byte is a space
 abbrev pub Spaceless : List ℕ → Type 0
-Spaceless bytes = All (λ b. b ≢ 32) bytes
+Spaceless bytes = AllByRecursion (λ b. b ≢ 32) bytes
 
 -- a byte in front of the first field
 abbrev pub onto_first : ℕ → List (List ℕ) → List (List ℕ)
