@@ -1,6 +1,6 @@
 -- The outcomes of a store's calls, by the place that a search found and what became of the cells.
 use Rattle.std.proofs.Common.{◌≡◌, ℕ, zero, suc, ◌+◌, ◌%◌, ◌<◌, ◌≤◌, min, Bool, true, false, cond, ◌≢◌, List, [], ◌∷◌, ◌++◌, length, Some, None, Ok, Err, Option, sym, refl, ap, ◌∙◌, subst, ⊎_elim, arith, length-append}
-use Rattle.std.specs.List.{AllByRecursion as All, slice_get}
+use Rattle.std.specs.List.{AllByRecursion, slice_get}
 use Rattle.std.proofs.ByRecursion.{All-append}
 use Rattle.std.proofs.lemmas.List.{append-nil}
 use Rattle.std.proofs.lemmas.Option.{slice_get-get_or, slice_get_past}
@@ -24,7 +24,7 @@ use Rattle.hashed.proofs.Effects.{sequence-parts, put_contents, take-contents, s
 -- ---- how many entries there are
 
 module _ {K V : Type 0} (n : ℕ) (cells : List (Cell K V)) (fits : n ≤ length cells) where
-  collected-length : (xs : List ℕ) → All (λ x. x < n) xs → length (collected (entry_of cells) xs) ≡ length xs
+  collected-length : (xs : List ℕ) → AllByRecursion (λ x. x < n) xs → length (collected (entry_of cells) xs) ≡ length xs
   collected-length [] h = refl
   collected-length (x ∷ xs) h = one x h.0 ∙ ap suc (collected-length xs h.1)
     where
@@ -39,7 +39,7 @@ module _ {K V : Type 0} (n : ℕ) (cells : List (Cell K V)) (fits : n ≤ length
           some : (cs : List (Cell K V)) → ((c : Cell K V) × (slice_get cells x ≡ Some c)) → length (onto (entry_of cells x) (collected (entry_of cells) xs)) ≡ suc (length (collected (entry_of cells) xs))
           some cs w = ap (λ (t : Option (Cell K V)). length (onto (entry_in t) (collected (entry_of cells) xs))) w.1
 
-  entries-length : (m : ℕ) → ((b : ℕ) → b < m → All (λ x. x < n) (bucket_of n cells b)) → length (gathered (bucket_entries n cells) m) ≡ length (gathered (bucket_of n cells) m)
+  entries-length : (m : ℕ) → ((b : ℕ) → b < m → AllByRecursion (λ x. x < n) (bucket_of n cells b)) → length (gathered (bucket_entries n cells) m) ≡ length (gathered (bucket_of n cells) m)
   entries-length zero h = refl
   entries-length (suc m) h =
       let ih = entries-length m (λ b l. h b (omega arith)) in
@@ -217,12 +217,12 @@ module _ {K V : Type 0} {less : K → K → Bool} (o : StrictOrder less) (hash :
           let others = put_others n cells cells' b x p.previous (k, v) f.before f.rest fl.0 f.last good' fl.1 in_room f.parts made in
           let counted : length (values_in less d k) ≡ rank = omega (arith, f.count, f.most) in
           let P : K × V → Type 0 = λ e. hash e.0 % n ≡ b in
-          let old : All P (d ++ r) = subst (All P) was (placed b in_room) in
+          let old : AllByRecursion P (d ++ r) = subst (AllByRecursion P) was (placed b in_room) in
           let u = contents-used o (λ e. e.0) (λ e. e.1) (entries_in n cells) in
           let l = room_left n cells fits (Some x) good' in (
             (
               subst (λ (t : Option ℕ). WellFormed n cells' t) (sym next) (put_good n cells cells' b x p.previous (k, v) f.before f.rest fl.0 f.last good' fl.1 in_room f.parts made),
-              placed_after o hash n cells k b placed in_room home cells' others (subst (All P) (sym now) (All-append P d ((k, v) ∷ r) (all_left P d r old) (sym home, all_right P d r old))),
+              placed_after o hash n cells k b placed in_room home cells' others (subst (AllByRecursion P) (sym now) (All-append P d ((k, v) ∷ r) (all_left P d r old) (sym home, all_right P d r old))),
             ),
             put_done less (state_of less (entries_in n cells) n) k rank v _ (not_past h) (omega (arith, u, l, ap length fl.1))
                 (changed (entries_in n cells) (entries_in n cells') _ (put_contents o hash n cells k b placed in_room home cells' d r rank counted others v was now)),
@@ -243,8 +243,8 @@ module _ {K V : Type 0} {less : K → K → Bool} (o : StrictOrder less) (hash :
             ap (collected (entry_of cells)) s.parts ∙ collected-append (entry_of cells) at.found.before (x ∷ s.after)
             ∙ ap (λ (t : Option (K × V)). collected (entry_of cells) at.found.before ++ onto t (collected (entry_of cells) s.after)) s.holds
 
-        old : All (λ e. hash e.0 % n ≡ p.bucket) (collected (entry_of cells) at.found.before ++ s.entry ∷ collected (entry_of cells) s.after)
-        old = subst (All (λ e. hash e.0 % n ≡ p.bucket)) was (placed p.bucket in_room)
+        old : AllByRecursion (λ e. hash e.0 % n ≡ p.bucket) (collected (entry_of cells) at.found.before ++ s.entry ∷ collected (entry_of cells) s.after)
+        old = subst (AllByRecursion (λ e. hash e.0 % n ≡ p.bucket)) was (placed p.bucket in_room)
 
         pub take_does : ((e : K × V) → entry_of cells x ≡ Some e → ((y : ℕ) → p.previous ≡ Some y → y ≢ x) → Relinked n cells cells' p.bucket p.previous x (target n free) e (next_of n cells x))
             → ValidCells hash n cells' p.link × ((true, state_of less (entries_in n cells') n) ≡ take_outcome less (state_of less (entries_in n cells) n) k rank)
@@ -260,7 +260,7 @@ module _ {K V : Type 0} {less : K → K → Bool} (o : StrictOrder less) (hash :
             let P : K × V → Type 0 = λ e. hash e.0 % n ≡ b in (
               (
                 subst (λ (t : Option ℕ). WellFormed n cells' t) (sym link) (take_good n cells cells' b x p.previous (target n free) e f.before s.after f.last good in_room s.parts made),
-                placed_after o hash n cells k b placed in_room home cells' others (subst (All P) (sym now) (All-append P before after (all_left P before (e ∷ after) old) (all_right P before (e ∷ after) old).1)),
+                placed_after o hash n cells k b placed in_room home cells' others (subst (AllByRecursion P) (sym now) (All-append P before after (all_left P before (e ∷ after) old) (all_right P before (e ∷ after) old).1)),
               ),
               take_done less (state_of less (entries_in n cells) n) k rank _ (stands_within x link)
                   (changed (entries_in n cells) (entries_in n cells') _ (take-contents o hash n cells k b placed in_room home cells' before after rank s.counted others e s.key was now)),
@@ -280,7 +280,7 @@ module _ {K V : Type 0} {less : K → K → Bool} (o : StrictOrder less) (hash :
             let P : K × V → Type 0 = λ e. hash e.0 % n ≡ b in (
               (
                 set_good n cells cells' b x p.previous (target n free) (e.0, v) f.before s.after f.last good in_room s.parts made,
-                placed_after o hash n cells k b placed in_room home cells' others (subst (All P) (sym now) (All-append P before ((e.0, v) ∷ after) (all_left P before (e ∷ after) old) ((all_right P before (e ∷ after) old).0, (all_right P before (e ∷ after) old).1))),
+                placed_after o hash n cells k b placed in_room home cells' others (subst (AllByRecursion P) (sym now) (All-append P before ((e.0, v) ∷ after) (all_left P before (e ∷ after) old) ((all_right P before (e ∷ after) old).0, (all_right P before (e ∷ after) old).1))),
               ),
               set_done less (state_of less (entries_in n cells) n) k rank v _ (stands_within x link)
                   (changed (entries_in n cells) (entries_in n cells') _ (set-contents o hash n cells k b placed in_room home cells' before after rank s.counted others e v s.key was now)),

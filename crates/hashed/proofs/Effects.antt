@@ -1,6 +1,6 @@
 -- What a change of one bucket does to the entries and to what they hold.
 use Rattle.std.proofs.Common.{◌≡◌, ℕ, zero, suc, ◌+◌, ◌%◌, ◌<◌, ◌≤◌, Bool, true, false, ◌≢◌, List, [], ◌∷◌, ◌++◌, length, set, sym, refl, ap, ◌∙◌, subst, ⊎_elim, append_assoc, arith, length-append}
-use Rattle.std.specs.List.{insert, remove, AllByRecursion as All}
+use Rattle.std.specs.List.{insert, remove, AllByRecursion}
 use Rattle.std.proofs.lemmas.List.{append-nil}
 use Rattle.std.proofs.lemmas.Bool.{cases_eq, cases_Bool}
 use Rattle.keys.specs.Order.{StrictOrder, same}
@@ -85,7 +85,7 @@ module _ {K V : Type 0} (less : K → K → Bool) (k : K) where
       (cases_eq b n)
 
 module _ {K V : Type 0} {less : K → K → Bool} (o : StrictOrder less) (hash : K → ℕ) (n : ℕ) where
-  bucket_none : (k : K) (c : ℕ) → (hash k % n ≡ c → ⊥) → (es : List (K × V)) → All (λ e. hash e.0 % n ≡ c) es → values_in less es k ≡ []
+  bucket_none : (k : K) (c : ℕ) → (hash k % n ≡ c → ⊥) → (es : List (K × V)) → AllByRecursion (λ e. hash e.0 % n ≡ c) es → values_in less es k ≡ []
   bucket_none k c out [] h = refl
   bucket_none k c out (e ∷ es) h =
       ⊎_elim
@@ -145,9 +145,9 @@ module _ {K V : Type 0} {less : K → K → Bool} (o : StrictOrder less) (hash :
 
     -- entries that belong into the bucket leave every entry in its place
     pub placed_after : (cells' : List (Cell K V)) → ((c : ℕ) → c < n → c ≢ b → bucket_entries n cells' c ≡ bucket_entries n cells c)
-        → All (λ e. hash e.0 % n ≡ b) (bucket_entries n cells' b) → Placed hash n cells'
+        → AllByRecursion (λ e. hash e.0 % n ≡ b) (bucket_entries n cells' b) → Placed hash n cells'
     placed_after cells' others h c l =
         ⊎_elim
-        (λ (e : c ≡ b). subst (λ (m : ℕ). All (λ e. hash e.0 % n ≡ m) (bucket_entries n cells' m)) (sym e) h)
-        (λ (ne : c ≢ b). subst (λ (es : List (K × V)). All (λ e. hash e.0 % n ≡ c) es) (sym (others c l ne)) (placed c l))
+        (λ (e : c ≡ b). subst (λ (m : ℕ). AllByRecursion (λ e. hash e.0 % n ≡ m) (bucket_entries n cells' m)) (sym e) h)
+        (λ (ne : c ≢ b). subst (λ (es : List (K × V)). AllByRecursion (λ e. hash e.0 % n ≡ c) es) (sym (others c l ne)) (placed c l))
         (cases_eq c b)

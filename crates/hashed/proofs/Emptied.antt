@@ -1,6 +1,6 @@
 -- Cells whose buckets are emptied one after the other.
 use Rattle.std.proofs.Common.{◌≡◌, ℕ, zero, suc, ◌+◌, ◌%◌, ◌<◌, ◌≤◌, ◌≢◌, List, [], ◌∷◌, ◌++◌, length, set, Some, None, Option, sym, refl, ap, ◌∙◌, subst, ⊎_elim, add-one, arith}
-use Rattle.std.specs.List.{AllByRecursion as All}
+use Rattle.std.specs.List.{AllByRecursion}
 use Rattle.std.proofs.ByRecursion.{All-weaker}
 use Rattle.std.proofs.lemmas.Bool.{cases_eq}
 use Rattle.hashed.specs.declared.cell.Cell.{Cell}
@@ -9,7 +9,7 @@ use Rattle.hashed.specs.Cells.{target, next_in, first_in, next_of, first_of, ent
 use Rattle.hashed.proofs.Links.{linked-front}
 use Rattle.hashed.proofs.Writes.{target_of, target_none, set_here, set_there}
 
-all-below : (m n : ℕ) → m ≤ n → All (λ z. z < n) (below m)
+all-below : (m n : ℕ) → m ≤ n → AllByRecursion (λ z. z < n) (below m)
 all-below zero n h = tt
 all-below (suc m) n h = (omega arith, all-below m n (omega arith))
 
@@ -45,7 +45,7 @@ gathered_nil : {E : Type 0} (f : ℕ → List E) (n : ℕ) → ((b : ℕ) → b 
 gathered_nil f zero h = refl
 gathered_nil f (suc n) h = rw (h n (omega arith), gathered_nil f n (λ b l. h b (omega arith)))
 
-all_same : (n m : ℕ) → All (λ x. n ≡ n) (below m)
+all_same : (n m : ℕ) → AllByRecursion (λ x. n ≡ n) (below m)
 all_same n zero = tt
 all_same n (suc m) = (refl, all_same n m)
 
@@ -70,4 +70,4 @@ module _ {K V : Type 0} (n : ℕ) (cells : List (Cell K V)) (free : Option ℕ) 
   emptied-entries = gathered_nil (bucket_entries n cells) n no_entries
 
   pub emptied_placed : (hash : K → ℕ) → Placed hash n cells
-  emptied_placed hash b h = subst (All (λ e. hash e.0 % n ≡ b)) (sym (no_entries b h)) tt
+  emptied_placed hash b h = subst (AllByRecursion (λ e. hash e.0 % n ≡ b)) (sym (no_entries b h)) tt

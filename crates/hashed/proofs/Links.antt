@@ -1,21 +1,21 @@
 -- Laws of lists that are threaded through cells.
 use Rattle.std.proofs.Common.{◌≡◌, ℕ, zero, suc, ◌+◌, ◌<◌, ◌≤◌, Bool, true, false, cond, ◌≢◌, ◌⊎◌, List, [], ◌∷◌, ◌++◌, length, Some, None, Option, sym, refl, ap, ◌∙◌, subst, inl, inr, ⊎_elim, append_assoc, arith, length-append}
-use Rattle.std.specs.List.{AllByRecursion as All}
+use Rattle.std.specs.List.{AllByRecursion}
 use Rattle.std.proofs.ByRecursion.{All-append, All-weaker}
 use Rattle.std.proofs.lemmas.Bool.{cases_eq}
 use Rattle.hashed.specs.Links.{walk, Linked, onto, collected, gathered, front}
 
 -- ---- parts of All
-pub all_left : {X : Type 0} (P : X → Type 0) (xs ys : List X) → All P (xs ++ ys) → All P xs
+pub all_left : {X : Type 0} (P : X → Type 0) (xs ys : List X) → AllByRecursion P (xs ++ ys) → AllByRecursion P xs
 all_left P [] ys h = tt
 all_left P (x ∷ xs) ys h = (h.0, all_left P xs ys h.1)
 
-pub all_right : {X : Type 0} (P : X → Type 0) (xs ys : List X) → All P (xs ++ ys) → All P ys
+pub all_right : {X : Type 0} (P : X → Type 0) (xs ys : List X) → AllByRecursion P (xs ++ ys) → AllByRecursion P ys
 all_right P [] ys h = h
 all_right P (x ∷ xs) ys h = all_right P xs ys h.1
 
 -- two facts of each element give a third
-pub all_both : {X : Type 0} (P Q R : X → Type 0) → ((x : X) → P x → Q x → R x) → (xs : List X) → All P xs → All Q xs → All R xs
+pub all_both : {X : Type 0} (P Q R : X → Type 0) → ((x : X) → P x → Q x → R x) → (xs : List X) → AllByRecursion P xs → AllByRecursion Q xs → AllByRecursion R xs
 all_both P Q R f [] p q = tt
 all_both P Q R f (x ∷ xs) p q = (f x p.0 q.0, all_both P Q R f xs p.1 q.1)
 
@@ -28,12 +28,12 @@ walk-linked next (suc f) l (x ∷ xs) c h =
     ap (walk next (suc f)) c.0 ∙ ap (λ r. x ∷ r) (walk-linked next f (next x) xs c.2 (omega arith))
 
 -- ---- a change elsewhere
-pub linked_frame : (next next' : ℕ → Option ℕ) (l : Option ℕ) (xs : List ℕ) → All (λ z. next' z ≡ next z) xs → Linked next l xs → Linked next' l xs
+pub linked_frame : (next next' : ℕ → Option ℕ) (l : Option ℕ) (xs : List ℕ) → AllByRecursion (λ z. next' z ≡ next z) xs → Linked next l xs → Linked next' l xs
 linked_frame next next' l [] h c = c
 linked_frame next next' l (x ∷ xs) h c =
     (c.0, c.1, rw h.0 (linked_frame next next' (next x) xs h.1 c.2))
 
-pub collected_frame : {E : Type 0} (held held' : ℕ → Option E) (xs : List ℕ) → All (λ z. held' z ≡ held z) xs → collected held' xs ≡ collected held xs
+pub collected_frame : {E : Type 0} (held held' : ℕ → Option E) (xs : List ℕ) → AllByRecursion (λ z. held' z ≡ held z) xs → collected held' xs ≡ collected held xs
 collected_frame held held' [] h = refl
 collected_frame held held' (x ∷ xs) h = rw h.0 (ap (onto (held x)) (collected_frame held held' xs h.1))
 
@@ -47,25 +47,25 @@ collected-append held (x ∷ xs) ys =
     ap (onto (held x)) (collected-append held xs ys) ∙ onto-append (held x) (collected held xs) (collected held ys)
 
 -- ---- the cells of a list differ
-pub linked_apart : (next : ℕ → Option ℕ) (l : Option ℕ) (xs : List ℕ) (y : ℕ) (ys : List ℕ) → Linked next l (xs ++ y ∷ ys) → All (λ z. z ≢ y) xs
+pub linked_apart : (next : ℕ → Option ℕ) (l : Option ℕ) (xs : List ℕ) (y : ℕ) (ys : List ℕ) → Linked next l (xs ++ y ∷ ys) → AllByRecursion (λ z. z ≢ y) xs
 linked_apart next l [] y ys c = tt
 linked_apart next l (x ∷ xs) y ys c =
     (λ e. (all_right (λ z. z ≢ x) xs (y ∷ ys) c.1).0 (sym e), linked_apart next (next x) xs y ys c.2)
 
-pub linked_after : (next : ℕ → Option ℕ) (l : Option ℕ) (xs : List ℕ) (y : ℕ) (ys : List ℕ) → Linked next l (xs ++ y ∷ ys) → All (λ z. z ≢ y) ys × Linked next (next y) ys
+pub linked_after : (next : ℕ → Option ℕ) (l : Option ℕ) (xs : List ℕ) (y : ℕ) (ys : List ℕ) → Linked next l (xs ++ y ∷ ys) → AllByRecursion (λ z. z ≢ y) ys × Linked next (next y) ys
 linked_after next l [] y ys c = (c.1, c.2)
 linked_after next l (x ∷ xs) y ys c = linked_after next (next x) xs y ys c.2
 
 -- ---- a cell comes in
 module _ (next next' : ℕ → Option ℕ) (x : ℕ) where
   -- at the front
-  pub linked-front : (l : Option ℕ) (xs : List ℕ) → Linked next l xs → All (λ z. z ≢ x) xs → next' x ≡ l
+  pub linked-front : (l : Option ℕ) (xs : List ℕ) → Linked next l xs → AllByRecursion (λ z. z ≢ x) xs → next' x ≡ l
       → ((z : ℕ) → z ≢ x → next' z ≡ next z) → Linked next' (Some x) (x ∷ xs)
   linked-front l xs c out here same =
       (refl, out, rw here (linked_frame next next' l xs (All-weaker (λ z. z ≢ x) (λ z. next' z ≡ next z) same xs out) c))
 
   -- behind y
-  pub linked-insert : (y : ℕ) (l : Option ℕ) (pre post : List ℕ) → Linked next l (pre ++ y ∷ post) → All (λ z. z ≢ x) (pre ++ y ∷ post)
+  pub linked-insert : (y : ℕ) (l : Option ℕ) (pre post : List ℕ) → Linked next l (pre ++ y ∷ post) → AllByRecursion (λ z. z ≢ x) (pre ++ y ∷ post)
       → next' y ≡ Some x → next' x ≡ next y → ((z : ℕ) → z ≢ x → z ≢ y → next' z ≡ next z) → Linked next' l (pre ++ y ∷ x ∷ post)
   linked-insert y l [] post c out to on same = (
     c.0,
@@ -78,7 +78,7 @@ module _ (next next' : ℕ → Option ℕ) (x : ℕ) where
     ),
   )
   linked-insert y l (p ∷ ps) post c out to on same =
-      let apart : All (λ z. z ≢ p) ps × All (λ z. z ≢ p) (y ∷ post) =
+      let apart : AllByRecursion (λ z. z ≢ p) ps × AllByRecursion (λ z. z ≢ p) (y ∷ post) =
       (all_left (λ z. z ≢ p) ps (y ∷ post) c.1, all_right (λ z. z ≢ p) ps (y ∷ post) c.1) in (
         c.0,
         All-append (λ z. z ≢ p) ps (y ∷ x ∷ post) apart.0 (apart.1.0, (λ e. out.0 (sym e), apart.1.1)),
@@ -95,8 +95,8 @@ module _ (next next' : ℕ → Option ℕ) (x : ℕ) where
         (all_both (λ z. z ≢ x) (λ z. z ≢ y) (λ z. next' z ≡ next z) same post c.2.1 c.1.1) c.2.2),
   )
   linked-remove y l (p ∷ ps) post c to same =
-      let l : All (λ z. z ≢ p) ps = all_left (λ z. z ≢ p) ps (y ∷ x ∷ post) c.1 in
-      let r : All (λ z. z ≢ p) (y ∷ x ∷ post) = all_right (λ z. z ≢ p) ps (y ∷ x ∷ post) c.1 in (
+      let l : AllByRecursion (λ z. z ≢ p) ps = all_left (λ z. z ≢ p) ps (y ∷ x ∷ post) c.1 in
+      let r : AllByRecursion (λ z. z ≢ p) (y ∷ x ∷ post) = all_right (λ z. z ≢ p) ps (y ∷ x ∷ post) c.1 in (
         c.0,
         All-append (λ z. z ≢ p) ps (y ∷ post) l (r.0, r.1.1),
         rw (same p (λ e. r.1.0 (sym e)) (λ e. r.0 (sym e))) (linked-remove y (next p) ps post c.2 to same),

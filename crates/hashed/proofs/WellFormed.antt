@@ -1,7 +1,7 @@
 -- What a change of one bucket's links and of the free cells keeps.
 use Rattle.std.proofs.Common.{◌≡◌, ℕ, ◌+◌, ◌<◌, ◌≤◌, cond, eqb, ◌≢◌, List, [], ◌∷◌, ◌++◌, length, Some, None, Option, sym, refl, ap, ◌∙◌, subst, ⊎_elim, append_assoc, arith, length-append, eq-eqb, ne_eqb}
 use mathlib.Core.Path.{fun_ext}
-use Rattle.std.specs.List.{AllByRecursion as All}
+use Rattle.std.specs.List.{AllByRecursion}
 use Rattle.std.proofs.ByRecursion.{All-append, All-weaker}
 use Rattle.std.proofs.lemmas.Bool.{cases_eq}
 use Rattle.hashed.specs.declared.cell.Cell.{Cell}
@@ -18,8 +18,8 @@ record Stays {K V : Type 0} (n : ℕ) (own own' : ℕ → ℕ) (cells cells' : L
   owner : own' z ≡ own z
 
 module _ {K V : Type 0} (n : ℕ) (own own' : ℕ → ℕ) (cells cells' : List (Cell K V)) where
-  list_frame : (c : ℕ) (l : Option ℕ) (xs : List ℕ) → OwnList own n cells c l xs → All (λ z. next_of n cells' z ≡ next_of n cells z) xs
-      → All (λ z. own' z ≡ own z) xs → OwnList own' n cells' c l xs
+  list_frame : (c : ℕ) (l : Option ℕ) (xs : List ℕ) → OwnList own n cells c l xs → AllByRecursion (λ z. next_of n cells' z ≡ next_of n cells z) xs
+      → AllByRecursion (λ z. own' z ≡ own z) xs → OwnList own' n cells' c l xs
   list_frame c l xs list nx ow =
       record {
         linked = linked_frame (next_of n cells) (next_of n cells') l xs nx list.linked;
@@ -35,7 +35,7 @@ module _ {K V : Type 0} (n : ℕ) (own' : ℕ → ℕ) (cells cells' : List (Cel
   bucket_new : bucket_of n cells' b ≡ ys
   bucket_new = walk-linked (next_of n cells') n (first_of n cells' b) ys list.linked few
 
-  same_at : (c : ℕ) → c < n → c ≢ b → All (Stays n good.own own' cells cells') (bucket_of n cells c)
+  same_at : (c : ℕ) → c < n → c ≢ b → AllByRecursion (Stays n good.own own' cells cells') (bucket_of n cells c)
   same_at c h ne =
       All-weaker (λ z. good.own z ≡ c) (Stays n good.own own' cells cells')
       (λ z p. kept z (λ q. ne (sym p ∙ q)) (λ q. absurd (let t : c ≡ n = sym p ∙ q in omega arith)))
@@ -94,11 +94,11 @@ module _ (next next' : ℕ → Option ℕ) (l l' : Option ℕ) (x : ℕ) where
   Led None to = (l' ≡ to) × ((z : ℕ) → z ≢ x → next' z ≡ next z)
   Led (Some y) to = (l' ≡ l) × (next' y ≡ to) × ((z : ℕ) → z ≢ x → z ≢ y → next' z ≡ next z)
 
-  put_linked : (previous : Option ℕ) (before rest : List ℕ) → LastIs previous before → Linked next l (before ++ rest) → All (λ z. z ≢ x) (before ++ rest)
+  put_linked : (previous : Option ℕ) (before rest : List ℕ) → LastIs previous before → Linked next l (before ++ rest) → AllByRecursion (λ z. z ≢ x) (before ++ rest)
       → next' x ≡ front rest → Led previous (Some x) → Linked next' l' (before ++ x ∷ rest)
   put_linked None before rest at c out on led =
       let c₀ : Linked next l rest = subst (λ d. Linked next l (d ++ rest)) at c in
-      let o₀ : All (λ z. z ≢ x) rest = subst (λ d. All (λ z. z ≢ x) (d ++ rest)) at out in
+      let o₀ : AllByRecursion (λ z. z ≢ x) rest = subst (λ d. AllByRecursion (λ z. z ≢ x) (d ++ rest)) at out in
       subst (λ d. Linked next' l' (d ++ x ∷ rest)) (sym at)
       (subst (λ t. Linked next' t (x ∷ rest)) (sym led.0)
       (linked-front next next' x l rest c₀ o₀ (on ∙ sym (linked_start next l rest c₀)) led.1))
@@ -107,7 +107,7 @@ module _ (next next' : ℕ → Option ℕ) (l l' : Option ℕ) (x : ℕ) where
       let e' : before ++ x ∷ rest ≡ at.0 ++ y ∷ x ∷ rest = ap (λ d. d ++ x ∷ rest) at.1 ∙ append_assoc at.0 (y ∷ []) (x ∷ rest) in
       let c₁ : Linked next l (at.0 ++ y ∷ rest) = subst (Linked next l) e c in
       subst (Linked next' l') (sym e') (subst (λ t. Linked next' t (at.0 ++ y ∷ x ∷ rest)) (sym led.0)
-      (linked-insert next next' x y l at.0 rest c₁ (subst (All (λ z. z ≢ x)) e out) led.1
+      (linked-insert next next' x y l at.0 rest c₁ (subst (AllByRecursion (λ z. z ≢ x)) e out) led.1
       (on ∙ sym (linked_start next (next y) rest (linked_after next l at.0 y rest c₁).1)) led.2))
 
   take-linked : (previous : Option ℕ) (before rest : List ℕ) → LastIs previous before → Linked next l (before ++ x ∷ rest)
@@ -140,10 +140,10 @@ module _ {K V : Type 0} (n : ℕ) (cells cells' : List (Cell K V)) (b x : ℕ) w
   nexts-from (Some y) to r z ne far = r.2 z ne (far y refl)
 
 -- the cell before a place stands in the bucket
-previous_in : (P : ℕ → Type 0) (previous : Option ℕ) (before rest : List ℕ) → LastIs previous before → All P (before ++ rest) → (y : ℕ) → previous ≡ Some y → P y
+previous_in : (P : ℕ → Type 0) (previous : Option ℕ) (before rest : List ℕ) → LastIs previous before → AllByRecursion P (before ++ rest) → (y : ℕ) → previous ≡ Some y → P y
 previous_in P previous before rest at h y e =
     let last : LastIs (Some y) before = subst (λ o. LastIs o before) e at in
-    (all_right P last.0 (y ∷ []) (subst (All P) last.1 (all_left P before rest h))).0
+    (all_right P last.0 (y ∷ []) (subst (AllByRecursion P) last.1 (all_left P before rest h))).0
 
 -- ---- a free cell comes in
 
@@ -158,7 +158,7 @@ module _ {K V : Type 0} (n : ℕ) (cells cells' : List (Cell K V)) (b x : ℕ) (
   put_free = subst (OwnList good.own n cells n (Some x)) unused good.freed
 
   -- x is in no bucket
-  out : All (λ z. z ≢ x) (before ++ rest)
+  out : AllByRecursion (λ z. z ≢ x) (before ++ rest)
   out =
       All-weaker (λ z. good.own z ≡ b) (λ z. z ≢ x)
       (λ z p q. let t : b ≡ n = sym p ∙ ap good.own q ∙ put_free.owned.0 in absurd (omega arith))
@@ -183,7 +183,7 @@ module _ {K V : Type 0} (n : ℕ) (cells cells' : List (Cell K V)) (b x : ℕ) (
     put_list : OwnList (given_to good.own x b) n cells' b (first_of n cells' b) (before ++ x ∷ rest)
     put_list =
         let H : ℕ → Type 0 = λ z. given_to good.own x b z ≡ b in
-        let h : All H (before ++ rest) = all_both (λ z. z ≢ x) (λ z. good.own z ≡ b) H (λ z ne p. given_else good.own x b z ne ∙ p) (before ++ rest) out put_old.owned in
+        let h : AllByRecursion H (before ++ rest) = all_both (λ z. z ≢ x) (λ z. good.own z ≡ b) H (λ z ne p. given_else good.own x b z ne ∙ p) (before ++ rest) out put_old.owned in
         record {
           linked = put_linked (next_of n cells) (next_of n cells') (first_of n cells b) (first_of n cells' b) x previous before rest at put_old.linked out linked.onward (led_from n cells cells' b x previous (Some x) linked.links);
           within = All-append (λ z. z < n) before (x ∷ rest) (all_left (λ z. z < n) before rest put_old.within) (put_free.within.0, all_right (λ z. z < n) before rest put_old.within);
@@ -220,7 +220,7 @@ module _ {K V : Type 0} (n : ℕ) (cells cells' : List (Cell K V)) (b x : ℕ) (
     pub put_entries : bucket_entries n cells' b ≡ collected (entry_of cells) before ++ e ∷ collected (entry_of cells) rest
     put_entries =
         let S : ℕ → Type 0 = λ z. entry_of cells' z ≡ entry_of cells z in
-        let s : All S (before ++ rest) = All-weaker (λ z. z ≢ x) S linked.elsewhere (before ++ rest) out in
+        let s : AllByRecursion S (before ++ rest) = All-weaker (λ z. z ≢ x) S linked.elsewhere (before ++ rest) out in
         ap (collected (entry_of cells')) (bucket_new n (given_to good.own x b) cells cells' (Some x) (next_of n cells x) good b in_room put_firsts put_kept (before ++ x ∷ rest) put_list put_few)
         ∙ collected-append (entry_of cells') before (x ∷ rest)
         ∙ ap (λ t. t ++ collected (entry_of cells') (x ∷ rest)) (collected_frame (entry_of cells) (entry_of cells') before (all_left S before rest s))
@@ -238,7 +238,7 @@ module _ {K V : Type 0} (n : ℕ) (cells cells' : List (Cell K V)) (b x : ℕ) (
   x_own : good.own x ≡ b
   x_own = (all_right (λ z. good.own z ≡ b) before (x ∷ rest) take_old.owned).0
 
-  clear : All (λ z. z ≢ x) (before ++ rest)
+  clear : AllByRecursion (λ z. z ≢ x) (before ++ rest)
   clear =
       All-append (λ z. z ≢ x) before rest
       (linked_apart (next_of n cells) (first_of n cells b) before x rest take_old.linked) (linked_after (next_of n cells) (first_of n cells b) before x rest take_old.linked).0
@@ -247,11 +247,11 @@ module _ {K V : Type 0} (n : ℕ) (cells cells' : List (Cell K V)) (b x : ℕ) (
   take_apart = previous_in (λ z. z ≢ x) previous before rest at clear
 
   -- what holds of the bucket's cells holds of those that stay
-  without : (P : ℕ → Type 0) → All P (before ++ x ∷ rest) → All P (before ++ rest)
+  without : (P : ℕ → Type 0) → AllByRecursion P (before ++ x ∷ rest) → AllByRecursion P (before ++ rest)
   without P h = All-append P before rest (all_left P before (x ∷ rest) h) (all_right P before (x ∷ rest) h).1
 
   -- no free cell is in the bucket
-  free_out : All (λ z. good.own z ≢ b) good.unused
+  free_out : AllByRecursion (λ z. good.own z ≢ b) good.unused
   free_out =
       All-weaker (λ z. good.own z ≡ n) (λ z. good.own z ≢ b)
       (λ z p q. let t : n ≡ b = sym p ∙ q in absurd (omega arith)) good.unused good.freed.owned
@@ -349,7 +349,7 @@ module _ {K V : Type 0} (n : ℕ) (cells cells' : List (Cell K V)) (b x : ℕ) (
     pub set-entries : bucket_entries n cells' b ≡ collected (entry_of cells) before ++ e ∷ collected (entry_of cells) rest
     set-entries =
         let S : ℕ → Type 0 = λ z. entry_of cells' z ≡ entry_of cells z in
-        let s : All S (before ++ rest) = All-weaker (λ z. z ≢ x) S written.elsewhere (before ++ rest) clear in
+        let s : AllByRecursion S (before ++ rest) = All-weaker (λ z. z ≢ x) S written.elsewhere (before ++ rest) clear in
         ap (collected (entry_of cells')) (same-bucket b ∙ parts)
         ∙ collected-append (entry_of cells') before (x ∷ rest)
         ∙ ap (λ t. t ++ collected (entry_of cells') (x ∷ rest)) (collected_frame (entry_of cells) (entry_of cells') before (all_left S before rest s))

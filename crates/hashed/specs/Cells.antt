@@ -1,6 +1,6 @@
 -- What n cells hold: a list for each bucket and a list of the free cells, all threaded through the cells.
 use Rattle.std.specs.Prelude.{◌≡◌, ℕ, zero, suc, ◌+◌, ◌%◌, ◌<◌, ◌≤◌, Bool, true, cond, ◌≢◌, List, [], ◌∷◌, ◌++◌, length, Some, None, Option, nat_lt}
-use Rattle.std.specs.List.{AllByRecursion as All, slice_get}
+use Rattle.std.specs.List.{AllByRecursion, slice_get}
 use Rattle.keys.specs.Order.{same}
 use Rattle.chains.specs.Entries.{values_under, contents_of}
 use Rattle.hashed.specs.declared.cell.Cell.{Cell}
@@ -57,8 +57,8 @@ held less es = contents_of less (λ e. e.0) (λ e. e.1) es
 -- from l on, the links lead through xs, all of them cells of the owner b, and there they end
 pub record OwnList {K V : Type 0} (own : ℕ → ℕ) (n : ℕ) (cells : List (Cell K V)) (b : ℕ) (l : Option ℕ) (xs : List ℕ) : Type 0 where
   pub linked : Linked (next_of n cells) l xs
-  pub within : All (λ x. x < n) xs
-  pub owned : All (λ x. own x ≡ b) xs
+  pub within : AllByRecursion (λ x. x < n) xs
+  pub owned : AllByRecursion (λ x. own x ≡ b) xs
 
 -- every list ends, and each cell is in one list: that of a bucket, or that of the free cells, whose owner is n
 pub record WellFormed {K V : Type 0} (n : ℕ) (cells : List (Cell K V)) (free : Option ℕ) : Type 0 where
@@ -70,7 +70,7 @@ pub record WellFormed {K V : Type 0} (n : ℕ) (cells : List (Cell K V)) (free :
 
 -- each entry is in the bucket that its key's hash number picks
 abbrev pub Placed : {K V : Type 0} → (K → ℕ) → ℕ → List (Cell K V) → Type 0
-Placed hash n cells = (b : ℕ) → b < n → All (λ e. hash e.0 % n ≡ b) (bucket_entries n cells b)
+Placed hash n cells = (b : ℕ) → b < n → AllByRecursion (λ e. hash e.0 % n ≡ b) (bucket_entries n cells b)
 
 -- a place in the list xs of a bucket: there the value of k at rank stands, or xs ends
 pub record Found {K V : Type 0} (less : K → K → Bool) (cells : List (Cell K V)) (xs : List ℕ) (k : K) (rank : ℕ)

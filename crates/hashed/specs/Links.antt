@@ -1,6 +1,6 @@
 -- Lists that are threaded through numbered cells by links.
 use Rattle.std.specs.Prelude.{◌≡◌, ℕ, zero, suc, ◌≢◌, List, [], ◌∷◌, ◌++◌, Some, None, Option}
-use Rattle.std.specs.List.{AllByRecursion as All}
+use Rattle.std.specs.List.{AllByRecursion}
 
 -- the cells that the links lead through from l on, at most fuel of them
 abbrev pub walk : (ℕ → Option ℕ) → ℕ → Option ℕ → List ℕ
@@ -11,7 +11,7 @@ walk next (suc fuel) (Some x) = x ∷ walk next fuel (next x)
 -- from l on, the links lead through xs, each once, and there they end
 abbrev pub Linked : (ℕ → Option ℕ) → Option ℕ → List ℕ → Type 0
 Linked next l [] = l ≡ None
-Linked next l (x ∷ xs) = (l ≡ Some x) × All (λ y. y ≢ x) xs × Linked next (next x) xs
+Linked next l (x ∷ xs) = (l ≡ Some x) × AllByRecursion (λ y. y ≢ x) xs × Linked next (next x) xs
 
 abbrev pub onto : {E : Type 0} → Option E → List E → List E
 onto None es = es

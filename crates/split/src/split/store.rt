@@ -1,5 +1,5 @@
 // The calls of a store, each passed to the store of its key.
-ghost use Rattle.split.specs.Store.{state as state_of, Valid, outside as Outside-of};
+ghost use Rattle.split.specs.Store.{state as state_of, Valid, outside as outside_of};
 
 use super::Split;
 use chains::{ChainStore, Refusal};
@@ -17,7 +17,7 @@ impl<A: ChainStore, B: ChainStore<Key = A::Key, Value = A::Value>> ChainStore
 
     ghost Outside = { A.ChainStore.Outside × B.ChainStore.Outside };
 
-    ghost outside = { Outside-of A.ChainStore.outside B.ChainStore.outside };
+    ghost outside = { outside_of A.ChainStore.outside B.ChainStore.outside };
 
     fn clear(&mut self) {
         self.clear_both();

@@ -13,7 +13,7 @@ pub put_first-requires : goal.put_first-requires
 put_first-requires c = valid_held c.args.self.now.store c.args.self.now.valid
 
 pub invariant_of-self : goal.invariant_of-self
-invariant_of-self c = (∣ c.put_first.ensures.valid ∣₁, tt)
+invariant_of-self c = record { valid = ∣ c.put_first.ensures.valid ∣₁ }
 
 pub returns : goal.returns
 returns c = record { effect = c.put_first.ensures.effect; refused = λ q. same-listing _ c.args.self.now (c.put_first.ensures.refused q) }

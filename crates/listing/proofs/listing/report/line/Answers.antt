@@ -21,7 +21,7 @@ loop-n-preserved c =
     let places = places_in c.args.store.now c.args.key in
     let text = string_bytes c.loop-n.text in
     let pushed : string_bytes c.push_str.new.self ≡ text ++ 32 ∷ decimal c.in-Some.n =
-    c.in_ok-push-str.ensures.bytes ∙ ap (λ (bytes : List ℕ). text ++ bytes) (c.deref.ensures ∙ c.in_ok-behind-space.ensures) in
+    c.in_ok-push_str.ensures.bytes ∙ ap (λ (bytes : List ℕ). text ++ bytes) (c.deref.ensures ∙ c.in_ok-behind_space.ensures) in
     ap (λ (bytes : List ℕ). bytes ++ spaced (drop (c.loop-n.rank + 1) places)) pushed
     ∙ spaced_more text _ places c.loop-n.rank c.in-Some.n (sym c.in-Some.ensures) c.loop-n.invariant
 

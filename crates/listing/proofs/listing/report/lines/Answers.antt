@@ -26,7 +26,7 @@ loop-next-preserved c =
     let text = string_bytes c.loop-next.text in
     listed_more (contents_in s) c.loop-next.keys c.loop-next.next text c.loop-next.values c.loop-next.invariant
     c.in-Some.key c.next_key-next.result (string_bytes c.push_str.new.self) c.count.result (held-ascending s) c.in-Some.is c.next_key-next.ensures
-    (c.in_ok-push-str.ensures.bytes ∙ ap (λ (bytes : List ℕ). text ++ bytes) (c.deref.ensures ∙ c.in_ok-line.ensures)) c.count.ensures
+    (c.in_ok-push_str.ensures.bytes ∙ ap (λ (bytes : List ℕ). text ++ bytes) (c.deref.ensures ∙ c.in_ok-line.ensures)) c.count.ensures
 
 pub returns : goal.returns
 returns c =
