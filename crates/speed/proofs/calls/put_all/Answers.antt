@@ -8,7 +8,7 @@ pub loop-number-preserved : goal.loop-number-preserved
 loop-number-preserved c =
     let ks = c.args.keys.now in
     let i = c.loop-number.number-index in
-    let one = counted c.from-count.result c.is-ok.result (is_ok c.put-put.result) c.from-count.ensures c.is-ok.ensures.value in (
+    let one = counted c.from-count.result c.is_ok.result (is_ok c.put-put.result) c.from-count.ensures c.is_ok.ensures.value in (
       omega (arith, one.0, c.loop-number.invariant.0),
       λ s. let v = c.loop-number.invariant.1 s in
           let on = put_on (meaning c.loop-number.store) (meaning c.put-put.new.self) c.put-put.result ks i _ c.loop-number-test.true refl (c.put-put.ensures.effect v.0) in

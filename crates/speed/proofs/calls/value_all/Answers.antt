@@ -9,9 +9,9 @@ loop-number-preserved c =
     let ks = c.args.wanted.now in
     let i = c.loop-number.number-index in
     let p = has_value (meaning c.args.store.now) in
-    let one = counted c.from-count.result c.is-some.result (is_some c.value-value.result) c.from-count.ensures c.is-some.ensures in (
+    let one = counted c.from-count.result c.is_some.result (is_some c.value-value.result) c.from-count.ensures c.is_some.ensures in (
       omega (arith, one.0, c.loop-number.invariant.0),
-      λ s. let one = counted c.from-count.result c.is-some.result (p (get_or ks i 0)) c.from-count.ensures (c.is-some.ensures ∙ ap (λ (o : Option _). is_some o) (c.value-value.ensures s)) in
+      λ s. let one = counted c.from-count.result c.is_some.result (p (get_or ks i 0)) c.from-count.ensures (c.is_some.ensures ∙ ap (λ (o : Option _). is_some o) (c.value-value.ensures s)) in
           omega (arith, c.loop-number.invariant.1 s, count_on p ks i c.loop-number-test.true, one.1),
     )
 

@@ -7,4 +7,4 @@ pub returns : goal.returns
 returns c =
     let ks = c.args.keys.now in
     let e : meaning c.new-store.result ≡ empty = search rules in
-    c.put-all.ensures.count c.new-store.ensures.valid ∙ ap (λ (s : Numbers). accepted s ks) e ∙ accepted-empty ks
+    c.put_all.ensures.count c.new-store.ensures.valid ∙ ap (λ (s : Numbers). accepted s ks) e ∙ accepted-empty ks
