@@ -1,5 +1,6 @@
 //! The library on examples. They stand in a crate of their own, since a crate with tests is proved twice.
 #![tactic(auto)]
+
 #[cfg(test)]
 mod registers;
 #[cfg(test)]
