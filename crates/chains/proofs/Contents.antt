@@ -1,9 +1,9 @@
 -- Laws of contents: what replacing one sequence does, and that contents are known by their sequences.
-use Rattle.std.proofs.Common.{◌≡◌, ℕ, ◌+◌, ◌-◌, ◌<◌, ◌≤◌, Bool, true, false, cond, eqb, ◌⊎◌, List, [], ◌∷◌, ◌++◌, length, sym, refl, ap, ◌∙◌, subst, inl, inr, ⊎_elim, zero-add, arith}
+use Rattle.std.proofs.Common.{◌≡◌, ℕ, ◌+◌, ◌<◌, Bool, true, false, cond, eqb, List, [], ◌∷◌, ◌++◌, length, sym, refl, ap, ◌∙◌, subst, ⊎_elim, zero-add, arith}
 use Rattle.std.proofs.lemmas.Bool.{both_ways, cases_Bool, eq-eqb, ne_eqb}
 use Rattle.keys.specs.Order.{StrictOrder, same}
 use Rattle.chains.specs.Contents.{sequence, entry, with_sequence, used, BelowAll, Ascending}
-use Rattle.chains.proofs.Orders.{asymmetric, same_refl, same_less, same_greater, trichotomy, same_eq}
+use Rattle.chains.proofs.Orders.{same_refl, same_less, same_greater, trichotomy, same_eq}
 
 module _ {K V : Type 0} {less : K → K → Bool} (o : StrictOrder less) where
   -- a key that is not greater than k, where all listed keys are, has no values

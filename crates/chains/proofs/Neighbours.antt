@@ -1,11 +1,11 @@
 -- The first, last and neighbouring keys of contents are the nearest keys with values.
-use Rattle.std.proofs.Common.{◌≡◌, ℕ, ◌<◌, Bool, true, false, cond, List, [], ◌∷◌, length, Some, None, Option, sym, refl, ap, ◌∙◌, subst, ⊎_elim, arith}
+use Rattle.std.proofs.Common.{◌≡◌, ◌<◌, Bool, true, false, List, [], ◌∷◌, length, Some, None, Option, sym, refl, ap, ◌∙◌, ⊎_elim, arith}
 use Rattle.std.proofs.lemmas.Bool.{both_ways, cases_Bool}
 use Rattle.keys.specs.Order.{StrictOrder, same}
-use Rattle.chains.specs.Contents.{sequence, with_sequence, BelowAll, Ascending, or_else, first_key, last_key, key_above, key_below}
+use Rattle.chains.specs.Contents.{sequence, BelowAll, Ascending, or_else, first_key, last_key, key_above, key_below}
 use Rattle.chains.specs.Laws.{HasValues, Least, Greatest, ContentsLaws}
-use Rattle.chains.proofs.Orders.{asymmetric, same_refl, same_less, same_greater, same_eq, trichotomy}
-use Rattle.chains.proofs.Contents.{below_all_none, below_all_trans, with_same, with_other, with_ascending, ext}
+use Rattle.chains.proofs.Orders.{asymmetric, same_refl, same_less, same_eq}
+use Rattle.chains.proofs.Contents.{below_all_none, with_same, with_other, with_ascending, ext}
 
 some_value : {V : Type 0} (vs : List V) → 0 < length vs → vs ≡ [] → ⊥
 some_value vs h e = let z = ap length e in omega arith

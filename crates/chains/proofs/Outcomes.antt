@@ -1,5 +1,5 @@
 -- Which outcome a call of a store has, by its rank and by how full the key's section is.
-use Rattle.std.proofs.Common.{◌≡◌, ℕ, ◌<◌, ◌≤◌, Bool, true, false, List, length, set, Ok, Err}
+use Rattle.std.proofs.Common.{◌≡◌, ℕ, ◌<◌, ◌≤◌, Bool, true, false, length, set, Ok, Err}
 use Rattle.std.specs.List.{insert, remove}
 use Rattle.std.proofs.lemmas.Bool.{lt-ltb, le-ltb, le-leb, lt-leb}
 use Rattle.chains.specs.declared.refusal.Refusal.TheVariants.{Full, PastEnd}

@@ -1,5 +1,5 @@
 -- What contents are, said of the keys and their sequences alone.
-use Rattle.std.specs.Prelude.{◌≡◌, ℕ, ◌<◌, Bool, true, false, List, length, Some, None, Option, ◌≢◌}
+use Rattle.std.specs.Prelude.{◌≡◌, ◌<◌, Bool, true, false, List, length, Some, None, Option, ◌≢◌}
 use Rattle.chains.specs.Contents.{sequence, with_sequence, Ascending, first_key, last_key, key_above, key_below}
 
 abbrev pub HasValues : {K V : Type 0} → (K → K → Bool) → List (K × List V) → K → Type 0

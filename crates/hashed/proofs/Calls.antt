@@ -1,21 +1,21 @@
 -- The outcomes of a store's calls, by the place that a search found and what became of the cells.
-use Rattle.std.proofs.Common.{◌≡◌, ℕ, zero, suc, ◌+◌, ◌%◌, ◌<◌, ◌≤◌, min, Bool, true, false, cond, ◌≢◌, List, [], ◌∷◌, ◌++◌, length, Some, None, Ok, Err, Option, sym, refl, ap, ◌∙◌, subst, ⊎_elim, arith, length-append}
+use Rattle.std.proofs.Common.{◌≡◌, ℕ, zero, suc, ◌+◌, ◌%◌, ◌<◌, ◌≤◌, Bool, true, false, cond, ◌≢◌, List, [], ◌∷◌, ◌++◌, length, Some, None, Ok, Err, Option, sym, refl, ap, ◌∙◌, subst, ⊎_elim, arith, length-append}
 use Rattle.std.specs.List.{AllByRecursion, slice_get}
 use Rattle.std.proofs.ByRecursion.{All-append}
 use Rattle.std.proofs.lemmas.List.{append-nil}
-use Rattle.std.proofs.lemmas.Option.{slice_get-get_or, slice_get_past}
+use Rattle.std.proofs.lemmas.Option.{slice_get_past}
 use Rattle.std.proofs.lemmas.Bool.{cases_lt}
 use Rattle.keys.specs.Order.{StrictOrder, same}
 use Rattle.chains.specs.Contents.{sequence, with_sequence}
-use Rattle.chains.specs.State.{StoreState, with_values, put_outcome, set_outcome, take_outcome}
-use Rattle.chains.specs.declared.refusal.Refusal.TheVariants.{Full, PastEnd}
+use Rattle.chains.specs.State.{with_values, put_outcome, set_outcome, take_outcome}
+use Rattle.chains.specs.declared.refusal.Refusal.TheVariants.{Full}
 use Rattle.chains.proofs.Entries.{contents-used}
 use Rattle.chains.proofs.Orders.{same_eq, same_refl}
-use Rattle.chains.proofs.Outcomes.{put_past, put_full, put_done, set_past, set_done, take_past, take_done}
+use Rattle.chains.proofs.Outcomes.{put_full, put_done, set_done, take_done}
 use Rattle.hashed.specs.declared.cell.Cell.{Cell}
 use Rattle.hashed.specs.declared.list.Place.{Place}
 use Rattle.hashed.specs.Links.{Linked, onto, collected, gathered, front}
-use Rattle.hashed.specs.Cells.{target, next_of, first_of, entry_of, entry_in, bucket_of, bucket_entries, entries_in, nodes, values_in, held, Placed, Found, WellFormed, Relinked, Rewritten}
+use Rattle.hashed.specs.Cells.{target, next_of, first_of, entry_of, entry_in, bucket_of, bucket_entries, entries_in, values_in, held, Placed, Found, WellFormed, Relinked, Rewritten}
 use Rattle.hashed.specs.Store.{state_of, ValidCells, InRange, PlaceOf}
 use Rattle.hashed.proofs.Links.{all_left, all_right, collected-append, first_left, walk-length}
 use Rattle.hashed.proofs.WellFormed.{put_apart, put_good, put_others, put_entries, take_apart, take_good, take-others, take-entries, set_good, set-others, set-entries}

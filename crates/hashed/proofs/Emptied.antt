@@ -1,10 +1,10 @@
 -- Cells whose buckets are emptied one after the other.
-use Rattle.std.proofs.Common.{◌≡◌, ℕ, zero, suc, ◌+◌, ◌%◌, ◌<◌, ◌≤◌, ◌≢◌, List, [], ◌∷◌, ◌++◌, length, set, Some, None, Option, sym, refl, ap, ◌∙◌, subst, ⊎_elim, add-one, arith}
+use Rattle.std.proofs.Common.{◌≡◌, ℕ, zero, suc, ◌+◌, ◌%◌, ◌<◌, ◌≤◌, ◌≢◌, List, [], length, set, Some, None, Option, sym, refl, ap, ◌∙◌, subst, ⊎_elim, add-one, arith}
 use Rattle.std.specs.List.{AllByRecursion}
 use Rattle.std.proofs.ByRecursion.{All-weaker}
 use Rattle.std.proofs.lemmas.Bool.{cases_eq}
 use Rattle.hashed.specs.declared.cell.Cell.{Cell}
-use Rattle.hashed.specs.Links.{walk, Linked, collected, gathered}
+use Rattle.hashed.specs.Links.{walk, collected, gathered}
 use Rattle.hashed.specs.Cells.{target, next_in, first_in, next_of, first_of, entry_of, bucket_of, bucket_entries, entries_in, below, Emptied, OwnList, WellFormed, Placed}
 use Rattle.hashed.proofs.Links.{linked-front}
 use Rattle.hashed.proofs.Writes.{target_of, target_none, set_here, set_there}

@@ -1,8 +1,8 @@
 -- A walk through the list of a bucket, on the way.
-use Rattle.std.proofs.Common.{◌≡◌, ℕ, zero, suc, ◌+◌, ◌<◌, ◌≤◌, Bool, true, false, cond, List, [], ◌∷◌, ◌++◌, length, Some, None, Option, sym, refl, ap, ◌∙◌, subst, append_assoc, arith, length-append}
+use Rattle.std.proofs.Common.{◌≡◌, ℕ, ◌+◌, ◌≤◌, Bool, true, false, cond, List, [], ◌∷◌, ◌++◌, length, Some, None, Option, sym, refl, ap, ◌∙◌, subst, append_assoc, arith, length-append}
 use Rattle.keys.specs.Order.{same}
 use Rattle.hashed.specs.declared.cell.Cell.{Cell}
-use Rattle.hashed.specs.Links.{Linked, onto, collected, LastIs, front}
+use Rattle.hashed.specs.Links.{Linked, onto, collected, LastIs}
 use Rattle.hashed.specs.Cells.{next_of, entry_of, values_in, Found}
 use Rattle.hashed.proofs.Links.{collected-append, linked_start, first_left}
 

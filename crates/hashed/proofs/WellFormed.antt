@@ -6,7 +6,7 @@ use Rattle.std.proofs.ByRecursion.{All-append, All-weaker}
 use Rattle.std.proofs.lemmas.Bool.{cases_eq}
 use Rattle.hashed.specs.declared.cell.Cell.{Cell}
 use Rattle.hashed.specs.Links.{walk, Linked, onto, collected, gathered, LastIs, front}
-use Rattle.hashed.specs.Cells.{next_of, first_of, entry_of, bucket_of, bucket_entries, nodes, OwnList, WellFormed, Redirected, Relinked, Rewritten}
+use Rattle.hashed.specs.Cells.{next_of, first_of, entry_of, bucket_of, bucket_entries, OwnList, WellFormed, Redirected, Relinked, Rewritten}
 use Rattle.hashed.proofs.Links.{all_left, all_right, all_both, walk-linked, walk-length, linked_frame, linked_start, collected_frame, collected-append, linked_apart, linked_after, linked-front, linked-insert, linked-remove, gathered-most, gathered_change}
 
 -- ---- one bucket and the free cells change

@@ -5,7 +5,7 @@ use Rattle.std.proofs.lemmas.List.{drop-set-lt}
 use Rattle.std.proofs.lemmas.Option.{slice_get-get_or}
 use Rattle.std.proofs.lemmas.Bool.{cases_eq, cases_Bool, ltb-true, lt-ltb, le-ltb}
 use Rattle.hashed.specs.declared.cell.Cell.{Cell}
-use Rattle.hashed.specs.Cells.{target, next_in, first_in, entry_in, next_of, first_of, entry_of, Redirected, Relinked, Rewritten}
+use Rattle.hashed.specs.Cells.{target, next_in, first_in, entry_in, next_of, first_of, entry_of, Relinked, Rewritten}
 
 -- ---- links
 

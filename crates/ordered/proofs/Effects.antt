@@ -9,7 +9,7 @@ use Rattle.chains.specs.Entries.{values_under}
 use Rattle.chains.proofs.Entries.{contents-sequence, entry_put, entry-taken, entry_set, entry_nth}
 use Rattle.ordered.specs.declared.cell.Cell.{Cell}
 use Rattle.ordered.specs.Sorted.{Sorted, smaller, not_greater, held}
-use Rattle.ordered.proofs.Sorted.{bounds, before_place, key_at, behind_place, sorted_put, sorted_take, sorted_set}
+use Rattle.ordered.proofs.Sorted.{bounds, before_place, key_at, behind_place, sorted_put, sorted_set}
 
 split_at : {X : Type 0} (s : List X) (i : ℕ) (d : X) → i < length s → take i s ++ get_or s i d ∷ drop (i + 1) s ≡ s
 split_at s i d lt = ap (λ (t : List _). take i s ++ t) (sym (drop_more s i d lt)) ∙ take-append-drop i s

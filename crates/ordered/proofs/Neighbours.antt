@@ -1,10 +1,10 @@
 -- At which places of sorted entries the first, last and neighbouring keys stand.
-use Rattle.std.proofs.Common.{◌≡◌, ℕ, zero, suc, ◌+◌, ◌<◌, ◌≤◌, Bool, true, false, cond, List, [], ◌∷◌, length, get_or, Some, None, Option, sym, refl, ap, ◌∙◌, subst, ⊎_elim, arith}
+use Rattle.std.proofs.Common.{◌≡◌, ℕ, zero, suc, ◌+◌, ◌<◌, ◌≤◌, Bool, true, false, cond, List, [], ◌∷◌, length, get_or, Some, None, sym, refl, ap, ◌∙◌, subst, ⊎_elim, arith}
 use Rattle.std.specs.List.{slice_get}
 use Rattle.std.proofs.lemmas.Option.{slice_get_past, slice_get-get_or}
 use Rattle.std.proofs.lemmas.Bool.{both_ways, cases_Bool, cases_lt}
 use Rattle.keys.specs.Order.{StrictOrder, same}
-use Rattle.chains.specs.Contents.{sequence, first_key, last_key, key_above, key_below}
+use Rattle.chains.specs.Contents.{first_key, last_key, key_above, key_below}
 use Rattle.chains.specs.Entries.{values_under}
 use Rattle.chains.specs.Laws.{HasValues, Least, Greatest}
 use Rattle.chains.proofs.Orders.{same_refl, same_eq}

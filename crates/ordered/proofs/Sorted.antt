@@ -2,7 +2,7 @@
 use Rattle.std.proofs.Common.{◌≡◌, ℕ, zero, suc, ◌+◌, ◌<◌, ◌≤◌, Bool, true, false, cond, not, List, [], ◌∷◌, ◌++◌, length, get_or, take, drop, set, count_by, sym, refl, ap, ◌∙◌, subst, ⊎_elim, arith}
 use Rattle.std.proofs.lemmas.List.Sums.{sum_by-cons}
 use Rattle.std.proofs.lemmas.Bool.{both_ways, cases_Bool}
-use Rattle.keys.specs.Order.{StrictOrder, same}
+use Rattle.keys.specs.Order.{StrictOrder}
 use Rattle.chains.specs.Entries.{values_under}
 use Rattle.chains.proofs.Orders.{trichotomy}
 use Rattle.ordered.specs.declared.cell.Cell.{Cell}

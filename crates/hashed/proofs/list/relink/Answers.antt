@@ -1,4 +1,4 @@
-use Rattle.std.proofs.Common.{◌<◌, length, arith, length-set, rules}
+use Rattle.std.proofs.Common.{◌<◌, length, arith, rules}
 use Rattle.hashed.proofs.Writes.{relinked_first, relinked_next, past_both}
 use Rattle.hashed.proofs.list.relink.Goals as goal
 

@@ -1,4 +1,4 @@
-use Rattle.std.proofs.Common.{◌≡◌, ℕ, Some, Option, sym, ◌∙◌, subst, arith}
+use Rattle.std.proofs.Common.{◌≡◌, ℕ, Option, sym, subst, arith}
 use Rattle.hashed.specs.Cells.{target, next_of, Relinked}
 use Rattle.hashed.proofs.Writes.{read_next, read_entry}
 use Rattle.hashed.proofs.list.remove.Goals as goal

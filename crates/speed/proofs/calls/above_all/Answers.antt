@@ -1,4 +1,4 @@
-use Rattle.std.proofs.Common.{◌≡◌, ℕ, List, get_or, is_some, count_by, Option, ap, ◌∙◌, arith}
+use Rattle.std.proofs.Common.{ℕ, List, get_or, is_some, count_by, Option, ap, ◌∙◌, arith}
 use Rattle.std.proofs.lemmas.List.{take_all}
 use Rattle.speed.specs.Workload.{meaning, has_above}
 use Rattle.speed.proofs.Workloads.{counted, count_on}

@@ -1,4 +1,4 @@
-use Rattle.std.proofs.Common.{◌≡◌, sym, ◌∙◌, arith}
+use Rattle.std.proofs.Common.{arith}
 use Rattle.hashed.specs.Cells.{target}
 use Rattle.hashed.specs.Store.{room}
 use Rattle.hashed.proofs.Calls.{place_of}

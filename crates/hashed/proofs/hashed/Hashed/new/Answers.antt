@@ -1,5 +1,5 @@
 use Rattle.std.proofs.Common.{◌≡◌, ℕ, min, List, [], length, drop, sym, ap, ◌∙◌, subst}
-use Rattle.hashed.specs.Cells.{target, entries_in, Emptied}
+use Rattle.hashed.specs.Cells.{target, entries_in}
 use Rattle.hashed.specs.Store.{room_of, ValidCells}
 use Rattle.hashed.proofs.Emptied.{emptied_good, emptied-entries, emptied_placed}
 use Rattle.hashed.proofs.hashed.Hashed.new.Goals as goal

@@ -1,8 +1,8 @@
-use Rattle.std.proofs.Common.{◌≡◌, ℕ, min, true, false, List, length, drop, Some, None, sym, refl, ap, ◌∙◌, subst, arith}
+use Rattle.std.proofs.Common.{◌≡◌, ℕ, min, true, List, drop, Some, None, sym, refl, ap, ◌∙◌, subst, arith}
 use Rattle.std.proofs.lemmas.Bool.{both_ways}
 use Rattle.chains.specs.State.{set_outcome}
 use Rattle.chains.proofs.Outcomes.{set_past}
-use Rattle.hashed.specs.Cells.{target, entries_in, entry_of, Rewritten}
+use Rattle.hashed.specs.Cells.{target, entries_in, Rewritten}
 use Rattle.hashed.specs.Store.{room, room_of, state, state_of, ValidCells}
 use Rattle.hashed.proofs.Writes.{target_in}
 use Rattle.hashed.proofs.Calls.{at_end, set_does}

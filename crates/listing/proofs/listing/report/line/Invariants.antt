@@ -1,4 +1,4 @@
-use Rattle.std.proofs.Common.{◌≡◌, ◌-◌, List, ◌++◌, length, drop, string_bytes, decimal}
+use Rattle.std.proofs.Common.{◌≡◌, ◌-◌, ◌++◌, length, drop, string_bytes, decimal}
 use Rattle.listing.specs.Store.{places_in}
 use Rattle.listing.specs.Report.{spaced}
 use Rattle.listing.proofs.listing.report.line.Given as goal
