@@ -16,7 +16,7 @@ Greatest less P r = Least (λ x y. less y x) P r
 pub record ContentsLaws {K : Type 0} (less : K → K → Bool) (V : Type 0) : Type 0 where
   -- replacing a key's sequence gives it that sequence, leaves every other key's, and keeps the form
   pub replaced : (c : List (K × List V)) (k : K) (vs : List V) → Ascending less c → sequence less (with_sequence less c k vs) k ≡ vs
-  pub others : (c : List (K × List V)) (k j : K) (vs : List V) → (k ≢ j) → sequence less (with_sequence less c k vs) j ≡ sequence less c j
+  pub others : (c : List (K × List V)) (k j : K) (vs : List V) → k ≢ j → sequence less (with_sequence less c k vs) j ≡ sequence less c j
   pub ascending : (c : List (K × List V)) (k : K) (vs : List V) → Ascending less c → Ascending less (with_sequence less c k vs)
   -- contents with the same sequences are the same
   pub known : (c d : List (K × List V)) → Ascending less c → Ascending less d → ((k : K) → sequence less c k ≡ sequence less d k) → c ≡ d

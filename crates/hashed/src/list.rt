@@ -39,7 +39,7 @@ pub(crate) fn link_to(x: usize) -> u16
 /// The bucket of a key in a store of `room` cells.
 pub(crate) fn bucket_for<K: Key>(key: K, room: usize) -> usize
     requires { 0 < room }
-    ensures value { result ≡ (K.Key.hash key) % room }
+    ensures value { result ≡ K.Key.hash key % room }
     ensures within { result < room }
 {
     (key.hash_number() % room as u64) as usize

@@ -15,7 +15,8 @@ pub fn number(digits: &[u8]) -> Option<u32>
 }
 
 fn read(digits: &[u8]) -> Option<u32>
-    requires { (0 < length digits.now) × (length digits.now ≤ 10) }
+    requires some { 0 < length digits.now }
+    requires most { length digits.now ≤ 10 }
     ensures { result ≡ number_of digits.now }
 {
     let mut n: u64 = 0;
@@ -30,7 +31,9 @@ fn read(digits: &[u8]) -> Option<u32>
 
 // The number that the digits of `n` and one more write.
 fn with_digit(n: u64, digit: u8) -> u64
-    requires { (n < 10 ^ 10) × ((48 ≤ digit) × (digit ≤ 57)) }
+    requires room { n < 10 ^ 10 }
+    requires low { 48 ≤ digit }
+    requires high { digit ≤ 57 }
     ensures { result ≡ n * 10 + (digit - 48) }
 {
     n * 10 + u64::from(digit - b'0')

@@ -6,11 +6,8 @@ use Rattle.std.proofs.lemmas.List.{at_drop_all}
 use Rattle.lines.proofs.Numerals.{below_more, room, digit_on, value_on, other_byte, answered, undigited}
 use Rattle.lines.proofs.number.read.Goals as goal
 
-pub with_digit-n-requires : goal.with_digit-n-requires
-with_digit-n-requires c = (
-  omega (arith, room c.loop-digit.n c.loop-digit.digit-index (omega arith) c.loop-digit.invariant.2),
-  c.if-not-is_ascii_digit.ensures.cases,
-)
+pub with_digit-n-requires-clause-room : goal.with_digit-n-requires-clause-room
+with_digit-n-requires-clause-room c = omega (arith, room c.loop-digit.n c.loop-digit.digit-index (omega arith) c.loop-digit.invariant.2)
 
 pub returns-then-not-is_ascii_digit : goal.returns-then-not-is_ascii_digit
 returns-then-not-is_ascii_digit c =
