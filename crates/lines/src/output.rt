@@ -1,5 +1,6 @@
 // Text to a writer.
-ghost use Rattle.std.specs.Prelude.{◌≡◌, true, is_some, IfSome, None, Err, IfOk, IfErr};
+ghost use Rattle.std.specs.Prelude.{◌≡◌, true, [], is_some, IfSome, None, Err, IfOk, IfErr};
+ghost use Rattle.std.specs.Io.Buffered.{writer_buffer, writer_inner};
 ghost use Rattle.std.specs.IoError.{error_kind};
 
 use std::alloc::Global;
@@ -19,6 +20,8 @@ impl<W: Write + Drop> Output<W> {
     /// nothing was written to it.
     pub fn new(alloc: Global, writer: W) -> io::Result<Output<W>>
         ensures ok { IfOk result (λ o. o.error ≡ None) }
+        ensures writer { IfOk result (λ o. writer_inner o.writer ≡ writer) }
+        ensures unwritten { IfOk result (λ o. writer_buffer o.writer ≡ []) }
         ensures err { IfErr result (λ e. error_kind e ≡ ErrorKind.OutOfMemory) }
     {
         Ok(Output {

@@ -1,5 +1,6 @@
 // Lines from a reader.
-ghost use Rattle.std.specs.Prelude.{◌≡◌, ◌<◌, true, false, [], is_some, is_ok, None, Ok, Err, MatchOption, OnOk, IfOk, IfErr};
+ghost use Rattle.std.specs.Prelude.{◌≡◌, ◌<◌, true, false, [], is_some, is_ok, None, Ok, Err, MatchOption, OnOk, IfOk, IfErr, ◌-◌, ◌^◌};
+ghost use Rattle.std.specs.Io.Buffered.{reader_buffer, reader_inner};
 ghost use Rattle.std.specs.IoError.{error_kind};
 ghost use Rattle.lines.specs.Buffer.{contents};
 
@@ -34,6 +35,9 @@ impl<R: Read> Reader<R> {
         R: Drop,
         ensures line { IfOk result (λ r. contents r.line ≡ []) }
         ensures error { IfOk result (λ r. r.error ≡ None) }
+        ensures input { IfOk result (λ r. reader_inner r.input ≡ input) }
+        ensures unread { IfOk result (λ r. reader_buffer r.input ≡ []) }
+        ensures budget { IfOk result (λ r. r.budget ≡ 2 ^ 64 - 1) }
         ensures err { IfErr result (λ e. error_kind e ≡ ErrorKind.OutOfMemory) }
     {
         Ok(Reader {

@@ -2,9 +2,8 @@
 use Rattle.std.proofs.Common.{◌≡◌, ℕ, suc, ◌+◌, ◌<◌, ◌≤◌, List, [], ◌∷◌, ◌++◌, length, drop, Some, None, decimal, Option, sym, refl, ap, ◌∙◌, add-one, arith, length-drop}
 use Rattle.std.specs.List.{slice_get}
 use Rattle.std.proofs.lemmas.List.{append-nil, append_assoc}
-use Rattle.std.proofs.lemmas.Bool.{ltb-true, ltb-false, lt-ltb, le-ltb}
+use Rattle.keys.proofs.Orders.{letters_order}
 use Rattle.keys.specs.Letters.{letters_less}
-use Rattle.keys.specs.Order.{StrictOrder}
 use Rattle.keys.specs.declared.letters.LettersKey.{LettersKey}
 use Rattle.chains.specs.Contents.{sequence, used, Ascending, first_key, key_above}
 use Rattle.chains.proofs.Entries.{contents-ascending, contents-used}
@@ -28,15 +27,6 @@ pub spaced-all : (text all vs : List ℕ) (rank : ℕ) → slice_get vs rank ≡
 spaced-all text all vs rank h e = sym (append-nil text) ∙ ap (λ (xs : List ℕ). text ++ spaced xs) (sym (drop_nth_none vs rank h)) ∙ e
 
 -- ---- the lines of all keys
-
-pub letters_order : StrictOrder letters_less
-letters_order = record {
-  irreflexive = λ x. le-ltb x.number x.number (omega arith);
-  transitive = λ x y z p q. lt-ltb x.number z.number (omega (arith, ltb-true x.number y.number p, ltb-true y.number z.number q));
-  connected = λ x y p q.
-      let e : x.number ≡ y.number = omega (arith, ltb-false x.number y.number p, ltb-false y.number x.number q) in
-      λ i. record { number = e i };
-}
 
 total-used : (c : List (LettersKey × List ℕ)) → total c ≡ used (λ _. 0) c 0
 total-used [] = refl

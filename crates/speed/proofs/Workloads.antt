@@ -5,9 +5,9 @@ use Rattle.std.specs.List.{insert}
 use Rattle.std.proofs.lemmas.List.Edits.{length-insert}
 use Rattle.std.proofs.lemmas.List.{drop_more}
 use Rattle.std.proofs.lemmas.List.Sums.{sum_by_more}
-use Rattle.std.proofs.lemmas.Bool.{cases_lt, lt-ltb, le-ltb, ltb-true, ltb-false}
+use Rattle.std.proofs.lemmas.Bool.{cases_lt}
+use Rattle.keys.proofs.Orders.{letters_order}
 use Rattle.keys.specs.Letters.{letters_less}
-use Rattle.keys.specs.Order.{StrictOrder}
 use Rattle.keys.specs.declared.letters.LettersKey.{LettersKey}
 use Rattle.chains.specs.Contents.{sequence, with_sequence, used, Ascending}
 use Rattle.chains.specs.State.{put_outcome, take_outcome}
@@ -44,13 +44,6 @@ take_on s s' r ks i n lt e f =
     ap (λ (q : Bool × Numbers). cond q.0 1 0 + taken q.1 rest) f ∙ ap (λ (l : List ℕ). taken s l) m
 
 -- ---- how many numbers a store of 32,768 cells accepts
-
-letters_order : StrictOrder letters_less
-letters_order = record {
-  irreflexive = λ x. le-ltb x.number x.number (omega arith);
-  transitive = λ x y z p q. lt-ltb x.number z.number (omega (arith, ltb-true x.number y.number p, ltb-true y.number z.number q));
-  connected = λ x y p q. let e : x.number ≡ y.number = omega (arith, ltb-false x.number y.number p, ltb-false y.number x.number q) in λ i. record { number = e i };
-}
 
 abbrev holding : List (LettersKey × List ℕ) → Numbers
 holding c = record { contents = c; section = λ _. 0; room = λ _. 32768 }
