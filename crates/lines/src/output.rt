@@ -1,6 +1,8 @@
 // Text to a writer.
 ghost use Rattle.std.specs.Prelude.{◌≡◌, true, [], is_some, IfSome, None, Err, IfOk, IfErr};
-ghost use Rattle.std.specs.Io.Buffered.{writer_buffer, writer_inner};
+ghost use Rattle.std.specs.Io.Buffered.{writer_buffer, writer_contents, writer_inner};
+ghost use Rattle.std.specs.Io.KnownBytes.{Appends};
+ghost use Rattle.std.specs.Fmt.{with_newline};
 ghost use Rattle.std.specs.IoError.{error_kind};
 
 use std::alloc::Global;
@@ -30,9 +32,10 @@ impl<W: Write + Drop> Output<W> {
         })
     }
 
-    /// Writes the text.
+    /// Writes the text: without an error, the writer then holds it behind what it held.
     pub fn text<D: Display + Drop>(&mut self, text: D)
-        ensures { is_some self.old.error ≡ true → self.new ≡ self.old }
+        ensures after_error { is_some self.old.error ≡ true → self.new ≡ self.old }
+        ensures written { self.new.error ≡ None → IfSome (D.output text) (Appends (writer_contents W.contents self.old.writer) (writer_contents W.contents self.new.writer)) }
     {
         if self.error.is_none() {
             if let Err(e) = write!(self.writer, "{text}") {
@@ -43,7 +46,8 @@ impl<W: Write + Drop> Output<W> {
 
     /// Writes the text and a line's end.
     pub fn line<D: Display + Drop>(&mut self, text: D)
-        ensures { is_some self.old.error ≡ true → self.new ≡ self.old }
+        ensures after_error { is_some self.old.error ≡ true → self.new ≡ self.old }
+        ensures written { self.new.error ≡ None → IfSome (with_newline (D.output text)) (Appends (writer_contents W.contents self.old.writer) (writer_contents W.contents self.new.writer)) }
     {
         self.text(format_args!("{text}\n"));
     }
