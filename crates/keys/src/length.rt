@@ -8,7 +8,7 @@ use crate::mix::mix;
 use crate::translator::Translator;
 
 /// The key of LENGTH, ordered by its first part, then by its second.
-#[derive(Clone, Copy, PartialEq, Eq, Debug)]
+#[derive(Clone, Copy, PartialEq, Eq, PartialOrd, Ord, Debug)]
 pub struct LengthKey {
     pub length: u8,
     pub prefix: u32,
@@ -22,11 +22,7 @@ impl Key for LengthKey {
     ghost order = { Prim.search rules };
 
     fn is_less(&self, other: &LengthKey) -> bool {
-        if self.length == other.length {
-            self.prefix < other.prefix
-        } else {
-            self.length < other.length
-        }
+        self < other
     }
 
     fn hash_number(&self) -> u64 {

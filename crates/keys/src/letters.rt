@@ -8,7 +8,7 @@ use crate::mix::mix;
 use crate::translator::Translator;
 
 /// The key of LETTERS, ordered as a number.
-#[derive(Clone, Copy, PartialEq, Eq, Debug)]
+#[derive(Clone, Copy, PartialEq, Eq, PartialOrd, Ord, Debug)]
 pub struct LettersKey {
     pub number: u64,
 }
@@ -21,7 +21,7 @@ impl Key for LettersKey {
     ghost order = { Prim.search rules };
 
     fn is_less(&self, other: &LettersKey) -> bool {
-        self.number < other.number
+        self < other
     }
 
     fn hash_number(&self) -> u64 {
