@@ -3,7 +3,7 @@ use row::Row;
 
 #[test]
 fn a_room_of_three_fills_to_its_last_cell(rt: HostRuntime) {
-    let mut cells = [0; 3];
+    let mut cells = [0u32; 3];
     let mut row = Row::new(&mut cells);
     assert!(rt; row.insert(0, 30) && row.insert(0, 10) && row.insert(1, 20));
     assert!(rt; !row.insert(3, 40));
@@ -25,7 +25,7 @@ fn no_cells_give_no_room(rt: HostRuntime) {
 
 #[test]
 fn an_insert_moves_items_from_block_to_block(rt: HostRuntime) {
-    let mut cells = [0; 600];
+    let mut cells = [0u32; 600];
     let mut row = Row::new(&mut cells);
     for n in 0..600 {
         assert!(rt; row.insert(0, 599 - n));
