@@ -11,9 +11,6 @@ use Rattle.ordered.specs.declared.cell.Cell.{Cell}
 use Rattle.ordered.specs.Sorted.{Sorted, smaller, not_greater, held}
 use Rattle.ordered.proofs.Sorted.{bounds, before_place, key_at, behind_place, sorted_put, sorted_set}
 
-split_at : {X : Type 0} (s : List X) (i : ℕ) (d : X) → i < length s → take i s ++ get_or s i d ∷ drop (i + 1) s ≡ s
-split_at s i d lt = ap (λ (t : List _). take i s ++ t) (sym (drop_more s i d lt)) ∙ take-append-drop i s
-
 module _ {K V : Type 0} {less : K → K → Bool} (o : StrictOrder less) where
   not_greater_le : (es : List (Cell K V)) (k : K) → not_greater less es k ≤ length es
   not_greater_le [] k = omega arith
@@ -31,71 +28,66 @@ module _ {K V : Type 0} {less : K → K → Bool} (o : StrictOrder less) where
   pub stretch_within : (es : List (Cell K V)) (k : K) → smaller less es k + length (sequence less (held less es) k) ≤ length es
   stretch_within es k = let s = stretch es k in let n = not_greater_le es k in omega arith
 
+-- a rank of a key's sequence, and its place among sorted entries
+module _ {K V : Type 0} {less : K → K → Bool} (o : StrictOrder less) (es : List (Cell K V)) (k : K) (rank i : ℕ) (s : Sorted less es) (at : i ≡ smaller less es k + rank) where
   -- ---- which places are a key's
 
-  pub present : (es : List (Cell K V)) (k : K) (rank : ℕ) (d : Cell K V) → Sorted less es → smaller less es k + rank < length es → less k (get_or es (smaller less es k + rank) d).key ≡ false
-      → rank < length (sequence less (held less es) k)
-  present es k rank d s lt f =
-      let b = stretch es k in
-      ⊎_elim
-      (λ h. h)
-      (λ h. absurd (both_ways (less k (get_or es (smaller less es k + rank) d).key) f (behind_place o es k (smaller less es k + rank) d s (omega arith) lt)))
-      (cases_lt rank (length (sequence less (held less es) k)))
+  pub present : (d : Cell K V) → i < length es → less k (get_or es i d).key ≡ false → rank < length (sequence less (held less es) k)
+  present d lt f =
+      let b = stretch o es k in
+      ⊎_elim (λ h. h) (λ h. absurd (both_ways (less k (get_or es i d).key) f (behind_place o es k i d s (omega arith) lt))) (cases_lt rank (length (sequence less (held less es) k)))
 
-  pub absent : (es : List (Cell K V)) (k : K) (rank : ℕ) (d : Cell K V) → Sorted less es → less k (get_or es (smaller less es k + rank) d).key ≡ true
-      → length (sequence less (held less es) k) ≤ rank
-  absent es k rank d s t =
-      let b = stretch es k in
-      ⊎_elim
-      (λ h. let q = key_at o es k (smaller less es k + rank) d s (omega arith) (omega arith) in
-      absurd (both_ways (less k k) (o.irreflexive k) (sym (ap (λ x. less k x) q) ∙ t)))
-      (λ h. h)
-      (cases_lt rank (length (sequence less (held less es) k)))
+  own : (d : Cell K V) → rank < length (sequence less (held less es) k) → (get_or es i d).key ≡ k
+  own d lt = let b = stretch o es k in key_at o es k i d s (omega arith) (omega arith)
+
+  pub absent : (d : Cell K V) → less k (get_or es i d).key ≡ true → length (sequence less (held less es) k) ≤ rank
+  absent d t =
+      ⊎_elim (λ h. absurd (both_ways (less k k) (o.irreflexive k) (sym (ap (λ x. less k x) (own d h)) ∙ t))) (λ h. h) (cases_lt rank (length (sequence less (held less es) k)))
 
   -- ---- what stands at a rank, and what changes there
 
-  before_rank : (es : List (Cell K V)) (k : K) (i rank : ℕ) → Sorted less es → i ≡ smaller less es k + rank → rank ≤ length (sequence less (held less es) k)
-      → length (values_under less (λ e. e.key) (λ e. e.value) (take i es) k) ≡ rank
-  before_rank es k i rank s a le = let b = stretch es k in let f = before_place o es k i s (omega arith) (omega arith) in omega arith
+  before_rank : rank ≤ length (sequence less (held less es) k) → length (values_under less (λ e. e.key) (λ e. e.value) (take i es) k) ≡ rank
+  before_rank le = let b = stretch o es k in let f = before_place o es k i s (omega arith) (omega arith) in omega arith
 
-  pub value_at : (es : List (Cell K V)) (k : K) (i rank : ℕ) (d : Cell K V) → Sorted less es → i ≡ smaller less es k + rank → rank < length (sequence less (held less es) k)
-      → slice_get (sequence less (held less es) k) rank ≡ Some (get_or es i d).value
-  value_at es k i rank d s a lt =
-      let b = stretch es k in
-      let n = not_greater_le es k in
+  split : (d : Cell K V) → rank < length (sequence less (held less es) k) → take i es ++ get_or es i d ∷ drop (suc i) es ≡ es
+  split d lt =
+      let w = stretch_within o es k in
+      let e : suc i ≡ i + 1 = sym (add-one i) in
+      ap (λ (m : ℕ). take i es ++ get_or es i d ∷ drop m es) e ∙ ap (λ (t : List (Cell K V)). take i es ++ t) (sym (drop_more es i d (omega arith))) ∙ take-append-drop i es
+
+  pub value_at : (d : Cell K V) → rank < length (sequence less (held less es) k) → slice_get (sequence less (held less es) k) rank ≡ Some (get_or es i d).value
+  value_at d lt =
       let P : List (Cell K V) → Type 0 = λ x. slice_get (sequence less (held less x) k) rank ≡ Some (get_or es i d).value in
-      subst P (split_at es i d (omega arith))
-      (entry_nth o (λ e. e.key) (λ e. e.value) (take i es) (get_or es i d) (drop (i + 1) es) k rank (key_at o es k i d s (omega arith) (omega arith)) (before_rank es k i rank s a (omega arith)))
+      subst P (split d lt) (entry_nth o (λ e. e.key) (λ e. e.value) (take i es) (get_or es i d) (drop (suc i) es) k rank (own d lt) (before_rank (omega arith)))
 
-  pub put_at : (es : List (Cell K V)) (c : Cell K V) (i rank : ℕ) → Sorted less es → i ≡ smaller less es c.key + rank → rank ≤ length (sequence less (held less es) c.key)
-      → held less (insert es i c) ≡ with_sequence less (held less es) c.key (insert (sequence less (held less es) c.key) rank c.value)
-  put_at es c i rank s a le =
-      let P : List (Cell K V) → Type 0 = λ x. held less (insert es i c) ≡ with_sequence less (held less x) c.key (insert (sequence less (held less x) c.key) rank c.value) in
-      subst P (take-append-drop i es) (entry_put o (λ e. e.key) (λ e. e.value) (take i es) c (drop i es) c.key rank refl (before_rank es c.key i rank s a le))
+  pub put_at : (v : V) → rank ≤ length (sequence less (held less es) k)
+      → held less (insert es i (record { key = k; value = v })) ≡ with_sequence less (held less es) k (insert (sequence less (held less es) k) rank v)
+  put_at v le =
+      let c : Cell K V = record { key = k; value = v } in
+      let P : List (Cell K V) → Type 0 = λ x. held less (insert es i c) ≡ with_sequence less (held less x) k (insert (sequence less (held less x) k) rank v) in
+      subst P (take-append-drop i es) (entry_put o (λ e. e.key) (λ e. e.value) (take i es) c (drop i es) k rank refl (before_rank le))
 
-  pub put_sorted : (es : List (Cell K V)) (c : Cell K V) (i rank : ℕ) → Sorted less es → i ≡ smaller less es c.key + rank → rank ≤ length (sequence less (held less es) c.key) → Sorted less (insert es i c)
-  put_sorted es c i rank s a le = let b = stretch es c.key in sorted_put o es i c s (omega arith) (omega arith)
+  pub put_sorted : (v : V) → rank ≤ length (sequence less (held less es) k) → Sorted less (insert es i (record { key = k; value = v }))
+  put_sorted v le = let b = stretch o es k in sorted_put o es i (record { key = k; value = v }) s (omega arith) (omega arith)
 
-  pub take_at : (es : List (Cell K V)) (k : K) (i rank : ℕ) (d : Cell K V) → Sorted less es → i ≡ smaller less es k + rank → rank < length (sequence less (held less es) k)
-      → held less (remove es i) ≡ with_sequence less (held less es) k (remove (sequence less (held less es) k) rank)
-  take_at es k i rank d s a lt =
-      let b = stretch es k in
-      let n = not_greater_le es k in
-      let P : List (Cell K V) → Type 0 = λ x. held less (remove es i) ≡ with_sequence less (held less x) k (remove (sequence less (held less x) k) rank) in
-      let q = entry-taken o (λ e. e.key) (λ e. e.value) (take i es) (get_or es i d) (drop (i + 1) es) k rank (key_at o es k i d s (omega arith) (omega arith)) (before_rank es k i rank s a (omega arith)) in
-      let e : i + 1 ≡ suc i = add-one i in
-      subst P (split_at es i d (omega arith)) (ap (λ (m : ℕ). held less (take i es ++ drop m es)) (sym e) ∙ q)
+  pub take_at : rank < length (sequence less (held less es) k) → held less (remove es i) ≡ with_sequence less (held less es) k (remove (sequence less (held less es) k) rank)
+  take_at lt = go es refl
+    where
+      go : (xs : List (Cell K V)) → es ≡ xs → held less (remove es i) ≡ with_sequence less (held less es) k (remove (sequence less (held less es) k) rank)
+      go [] q = let w = stretch_within o es k in let n = ap (λ (t : List (Cell K V)). length t) q in absurd (omega arith)
+      go (d ∷ _) q =
+          let P : List (Cell K V) → Type 0 = λ x. held less (remove es i) ≡ with_sequence less (held less x) k (remove (sequence less (held less x) k) rank) in
+          subst P (split d lt) (entry-taken o (λ e. e.key) (λ e. e.value) (take i es) (get_or es i d) (drop (suc i) es) k rank (own d lt) (before_rank (omega arith)))
 
-  pub set_at : (es : List (Cell K V)) (c : Cell K V) (i rank : ℕ) → Sorted less es → i ≡ smaller less es c.key + rank → rank < length (sequence less (held less es) c.key)
-      → held less (set es i c) ≡ with_sequence less (held less es) c.key (set (sequence less (held less es) c.key) rank c.value)
-  set_at es c i rank s a lt =
-      let b = stretch es c.key in
-      let n = not_greater_le es c.key in
-      let P : List (Cell K V) → Type 0 = λ x. held less (set es i c) ≡ with_sequence less (held less x) c.key (set (sequence less (held less x) c.key) rank c.value) in
-      let q = entry_set o (λ e. e.key) (λ e. e.value) (take i es) (get_or es i c) c (drop (i + 1) es) c.key rank (key_at o es c.key i c s (omega arith) (omega arith)) refl (before_rank es c.key i rank s a (omega arith)) in
-      let e : i + 1 ≡ suc i = add-one i in
-      let w : set es i c ≡ take i es ++ c ∷ drop (i + 1) es = set_split es i c (omega arith) ∙ ap (λ (m : ℕ). take i es ++ c ∷ drop m es) (sym e) in
-      subst P (split_at es i c (omega arith)) (ap (λ (x : List (Cell K V)). held less x) w ∙ q)
+  pub set_at : (v : V) → rank < length (sequence less (held less es) k)
+      → held less (set es i (record { key = k; value = v })) ≡ with_sequence less (held less es) k (set (sequence less (held less es) k) rank v)
+  set_at v lt =
+      let c : Cell K V = record { key = k; value = v } in
+      let w = stretch_within o es k in
+      let P : List (Cell K V) → Type 0 = λ x. held less (set es i c) ≡ with_sequence less (held less x) k (set (sequence less (held less x) k) rank v) in
+      subst P (split c lt)
+      (ap (λ (x : List (Cell K V)). held less x) (set_split es i c (omega arith))
+      ∙ entry_set o (λ e. e.key) (λ e. e.value) (take i es) (get_or es i c) c (drop (suc i) es) k rank (own c lt) refl (before_rank (omega arith)))
 
-  pub set_sorted : (es : List (Cell K V)) (c : Cell K V) (i rank : ℕ) → Sorted less es → i ≡ smaller less es c.key + rank → rank < length (sequence less (held less es) c.key) → Sorted less (set es i c)
-  set_sorted es c i rank s a lt = let b = stretch es c.key in sorted_set o es i c c s (sym (key_at o es c.key i c s (omega arith) (omega arith)))
+  pub set_sorted : (v : V) → rank < length (sequence less (held less es) k) → Sorted less (set es i (record { key = k; value = v }))
+  set_sorted v lt = let c : Cell K V = record { key = k; value = v } in sorted_set o es i c c s (sym (own c lt))

@@ -1,5 +1,6 @@
 -- Entries sorted by their keys, and where the entries of one key stand among them.
 use Rattle.std.specs.Prelude.{◌≡◌, ℕ, ◌+◌, Bool, false, cond, List, [], ◌∷◌}
+use Rattle.std.specs.Coded.{Coded-set, coded_bool, ×_prop, Unit-prop}
 use Rattle.chains.specs.Entries.{contents_of}
 use Rattle.ordered.specs.declared.cell.Cell.{Cell}
 
@@ -26,3 +27,12 @@ not_greater less (e ∷ es) k = cond (less k e.key) (not_greater less es k) (1 +
 -- what the entries hold: each key's values in the order of the entries
 abbrev pub held : {K V : Type 0} → (K → K → Bool) → List (Cell K V) → List (K × List V)
 held less es = contents_of less (λ e. e.key) (λ e. e.value) es
+
+-- both facts have one proof at most
+pub NoneSmaller-prop : {K V : Type 0} (less : K → K → Bool) (k : K) (es : List (Cell K V)) → IsProp (NoneSmaller less k es)
+NoneSmaller-prop less k [] = Unit-prop
+NoneSmaller-prop less k (e ∷ es) = ×_prop (Coded-set coded_bool (less e.key k) false) (NoneSmaller-prop less k es)
+
+pub Sorted-prop : {K V : Type 0} (less : K → K → Bool) (es : List (Cell K V)) → IsProp (Sorted less es)
+Sorted-prop less [] = Unit-prop
+Sorted-prop less (e ∷ es) = ×_prop (NoneSmaller-prop less e.key es) (Sorted-prop less es)

@@ -1,7 +1,6 @@
 //! The ordered store: entries sorted by key in a row of lent cells, found by binary search.
 #![tactic(auto)]
 
-mod bound;
 mod cell;
 mod ordered;
 

@@ -1,5 +1,8 @@
 -- A search by halves: what the entries before and behind a window are.
 use Rattle.std.proofs.Common.{◌≡◌, ℕ, zero, suc, ◌+◌, ◌-◌, ◌*◌, ◌^◌, ◌<◌, ◌≤◌, Bool, true, false, cond, ◌⊎◌, List, [], ◌∷◌, length, get_or, take, count_by, sym, refl, ap, ◌∙◌, subst, inl, inr, zero-mul, add-one, arith, pow-add}
+use denote.Ref.{Bor}
+use denote.Param.Members.{MutLaws}
+use Rattle.std.specs.Fn.{Mut, ComputesKey}
 use Rattle.std.proofs.lemmas.Bool.{cases_lt}
 use Rattle.std.proofs.lemmas.List.Sums.{count_by_more_yes, count_by_more_no}
 use Rattle.std.proofs.lemmas.List.{length-take-le, get_or-take}
@@ -22,6 +25,10 @@ pow_half j lt =
     let z : 1 + (j - 1) ≡ j = omega arith in
     let b : 2 ^ j ≡ 2 ^ 1 * 2 ^ (j - 1) = rw z at a in
     b ∙ omega arith
+
+-- what a call of a closure that computes p gives
+pub computed : {F X : Type 0} {g : Mut F (Bor X × Unit {0}) Bool} (l : MutLaws g) (p : X → Bool) {f : F} {x : Bor X} {r : Bool} → ComputesKey g p f → g.post f (x, tt) r → r ≡ p x.now
+computed {g = g} l p {f} {x} {r} k e = let w = (l.post_iff f (x, tt) r).0 e in (k.at ((x, tt) ∷ []) r w.0 w.1).0
 
 module _ {X : Type 0} where
   pub raised : (p : X → Bool) (xs : List X) (n lo hi m lo' : ℕ) (x : X) → PartitionedTo p xs n → Window p xs n lo hi → m < n → ((d : X) → x ≡ get_or xs m d) → p x ≡ true → lo' ≤ m + 1 → Window p xs n lo' hi

@@ -8,4 +8,3 @@ mod row;
 mod search;
 
 pub use row::Row;
-pub use search::Predicate;

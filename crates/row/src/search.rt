@@ -1,92 +1,85 @@
 // The partition point of the items: a search by halves with no branch on an item, first among blocks and then in one.
 ghost use Rattle.std.specs.Prelude.{◌≡◌, ℕ, ◌+◌, ◌*◌, ◌^◌, ◌<◌, ◌≤◌, Bool, length, if◌then◌else◌, count_by, slice_index_or};
+ghost use Rattle.std.specs.Fn.{ComputesKey};
 ghost use Rattle.row.specs.Partition.{Partitioned, PartitionedTo, Window};
 ghost use Rattle.row.specs.Rings.{ring, rings, first_items, Headed};
 
 use crate::blocks::{BLOCK, block_end, head_of};
 
-/// A question that splits a list in two: the items that satisfy it, and behind them those that do not.
-pub trait Predicate<T> {
-    ghost holds: { Self → T → Bool };
-
-    /// Whether `item` satisfies the predicate.
-    fn test(&self, item: T) -> bool
-        ensures { result ≡ holds self.now item };
-}
-
-/// How many of the first `len` items satisfy `p`, if those that do stand before the others.
-pub(crate) fn partition_point<T: Copy, P: Predicate<T>>(
+/// How many of the first `len` items satisfy `pred`, if those that do stand before the others.
+pub(crate) fn partition_point<T: Copy, F: Fn(&T) -> bool>(
     cells: &[T],
     heads: &[u16],
     len: usize,
-    p: &P,
+    pred: &F,
 ) -> usize
+    requires callable { F.IsAlwaysCallable pred.now }
     requires room { len ≤ length cells.now }
     requires heads { Headed 256 heads.now (length cells.now) }
     ensures within { result ≤ len }
-    ensures point { Partitioned (P.Predicate.holds p.now) (first_items 256 heads.now cells.now len) → result ≡ count_by (P.Predicate.holds p.now) (first_items 256 heads.now cells.now len) }
+    ensures point { (p : T → Bool) → ComputesKey F.Fn p pred.now → Partitioned p (first_items 256 heads.now cells.now len) → result ≡ count_by p (first_items 256 heads.now cells.now len) }
 {
     if len == 0 {
         return 0;
     }
-    let b = find_block(cells, heads, len, p);
+    let b = find_block(cells, heads, len, pred);
     let start = b * BLOCK;
     let end = block_end(cells.len(), start);
     let stop = if len < end { len } else { end };
     let head = head_of(heads, b, end - start);
-    start + ring_partition_point(&cells[start..end], head, stop - start, p)
+    start + ring_partition_point(&cells[start..end], head, stop - start, pred)
 }
 
-// The block in which the items that satisfy `p` end.
-fn find_block<T: Copy, P: Predicate<T>>(cells: &[T], heads: &[u16], len: usize, p: &P) -> usize
+// The block in which the items that satisfy `pred` end.
+fn find_block<T: Copy, F: Fn(&T) -> bool>(cells: &[T], heads: &[u16], len: usize, pred: &F) -> usize
+    requires callable { F.IsAlwaysCallable pred.now }
     requires some { 0 < len }
     requires room { len ≤ length cells.now }
     requires heads { Headed 256 heads.now (length cells.now) }
     ensures within { result * 256 < len }
-    ensures window { PartitionedTo (P.Predicate.holds p.now) (rings 256 heads.now cells.now) len → Window (P.Predicate.holds p.now) (rings 256 heads.now cells.now) len (result * 256) ((result + 1) * 256) }
+    ensures window { (p : T → Bool) → ComputesKey F.Fn p pred.now → PartitionedTo p (rings 256 heads.now cells.now) len → Window p (rings 256 heads.now cells.now) len (result * 256) ((result + 1) * 256) }
 {
     let blocks = (len - 1) / BLOCK + 1;
-    let mut j = blocks.ilog2();
-    let last = blocks - power(j);
-    let mut b = if p.test(block_first(cells, heads, last)) {
+    let turns = blocks.ilog2();
+    let last = blocks - power(turns);
+    let mut b = if pred(&block_first(cells, heads, last)) {
         last
     } else {
         0
     };
-    while 0 < j {
-        j -= 1;
+    for j in (0..turns).rev() {
         let mid = b + power(j);
-        b += power_if(p.test(block_first(cells, heads, mid)), j);
+        b += power_if(pred(&block_first(cells, heads, mid)), j);
     }
     b
 }
 
-// How many of the first `n` items of a ring satisfy `p`.
-fn ring_partition_point<T: Copy, P: Predicate<T>>(
+// How many of the first `n` items of a ring satisfy `pred`.
+fn ring_partition_point<T: Copy, F: Fn(&T) -> bool>(
     block: &[T],
     head: usize,
     n: usize,
-    p: &P,
+    pred: &F,
 ) -> usize
+    requires callable { F.IsAlwaysCallable pred.now }
     requires some { 0 < n }
     requires room { n ≤ length block.now }
     requires head { head ≤ length block.now }
     ensures within { result ≤ n }
-    ensures window { PartitionedTo (P.Predicate.holds p.now) (ring head block.now) n → Window (P.Predicate.holds p.now) (ring head block.now) n result result }
+    ensures window { (p : T → Bool) → ComputesKey F.Fn p pred.now → PartitionedTo p (ring head block.now) n → Window p (ring head block.now) n result result }
 {
-    let mut j = n.ilog2();
-    let width = power(j);
-    let mut low = if p.test(ring_item(block, head, width - 1)) {
+    let turns = n.ilog2();
+    let width = power(turns);
+    let mut low = if pred(&ring_item(block, head, width - 1)) {
         n - width
     } else {
         0
     };
-    while 0 < j {
-        j -= 1;
+    for j in (0..turns).rev() {
         let half = power(j);
-        low += power_if(p.test(ring_item(block, head, low + half - 1)), j);
+        low += power_if(pred(&ring_item(block, head, low + half - 1)), j);
     }
-    low + power_if(p.test(ring_item(block, head, low)), 0)
+    low + power_if(pred(&ring_item(block, head, low)), 0)
 }
 
 // The first item of a block.

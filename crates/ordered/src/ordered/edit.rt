@@ -1,7 +1,7 @@
 // Changes to the entries, at places that a search found.
 ghost use Rattle.std.specs.Prelude.{◌≡◌, ◌≤◌, false, is_ok};
-ghost use Rattle.chains.specs.State.{emptied, put_outcome, set_outcome, take_outcome};
-ghost use Rattle.ordered.specs.Store.{room_of, spare, state, Valid, StandsAt, GoesAt};
+ghost use Rattle.chains.specs.State.{put_outcome, set_outcome, take_outcome};
+ghost use Rattle.ordered.specs.Store.{spare, state, StandsAt, GoesAt};
 
 use super::Ordered;
 use crate::cell::Cell;
@@ -9,16 +9,6 @@ use chains::Refusal;
 use keys::Key;
 
 impl<K: Key, V: Copy> Ordered<'_, K, V> {
-    /// Lets all entries go.
-    pub(super) fn remove_all(&mut self)
-        ensures valid { Valid K.Key.less self.new }
-        ensures effect { state K.Key.less self.new ≡ emptied (state K.Key.less self.old) }
-        ensures room { room_of self.new ≤ 32768 }
-        ensures outside { spare self.new ≡ spare self.old }
-    {
-        self.row.clear();
-    }
-
     /// Puts an entry in at the place of its rank, or refuses where no cell is free.
     pub(super) fn insert_at(
         &mut self,
@@ -27,8 +17,8 @@ impl<K: Key, V: Copy> Ordered<'_, K, V> {
         rank: usize,
         value: V,
     ) -> Result<(), Refusal>
-        ensures valid { Valid K.Key.less self.old → GoesAt K.Key.less self.old key rank place → Valid K.Key.less self.new }
-        ensures effect { Valid K.Key.less self.old → GoesAt K.Key.less self.old key rank place → (result, state K.Key.less self.new) ≡ put_outcome K.Key.less (state K.Key.less self.old) key rank value }
+        requires { GoesAt self.old key rank place }
+        ensures effect { (result, state self.new) ≡ put_outcome K.less (state self.old) key rank value }
         ensures refused { is_ok result ≡ false → self.new ≡ self.old }
         ensures outside { spare self.new ≡ spare self.old }
     {
@@ -41,8 +31,8 @@ impl<K: Key, V: Copy> Ordered<'_, K, V> {
 
     /// Puts another value in the place of that rank.
     pub(super) fn replace_at(&mut self, place: usize, key: K, rank: usize, value: V) -> bool
-        ensures valid { Valid K.Key.less self.old → StandsAt K.Key.less self.old key rank place → Valid K.Key.less self.new }
-        ensures effect { Valid K.Key.less self.old → StandsAt K.Key.less self.old key rank place → (result, state K.Key.less self.new) ≡ set_outcome K.Key.less (state K.Key.less self.old) key rank value }
+        requires { StandsAt self.old key rank place }
+        ensures effect { (result, state self.new) ≡ set_outcome K.less (state self.old) key rank value }
         ensures refused { result ≡ false → self.new ≡ self.old }
         ensures outside { spare self.new ≡ spare self.old }
     {
@@ -51,8 +41,8 @@ impl<K: Key, V: Copy> Ordered<'_, K, V> {
 
     /// Takes the entry of that rank out.
     pub(super) fn remove_at(&mut self, place: usize, key: K, rank: usize) -> bool
-        ensures valid { Valid K.Key.less self.old → Valid K.Key.less self.new }
-        ensures effect { Valid K.Key.less self.old → StandsAt K.Key.less self.old key rank place → (result, state K.Key.less self.new) ≡ take_outcome K.Key.less (state K.Key.less self.old) key rank }
+        requires { StandsAt self.old key rank place }
+        ensures effect { (result, state self.new) ≡ take_outcome K.less (state self.old) key rank }
         ensures refused { result ≡ false → self.new ≡ self.old }
         ensures outside { spare self.new ≡ spare self.old }
     {

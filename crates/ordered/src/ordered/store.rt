@@ -2,7 +2,7 @@
 ghost use Rattle.std.specs.Prelude.{List};
 ghost use Rattle.std.specs.Borrow.{GName};
 ghost use Rattle.ordered.specs.declared.cell.Cell.{Cell as Entry};
-ghost use Rattle.ordered.specs.Store.{spare, state as state_in, Valid};
+ghost use Rattle.ordered.specs.Store.{spare, state as state_in};
 
 use super::Ordered;
 use chains::{ChainStore, Refusal};
@@ -13,16 +13,15 @@ impl<'a, K: Key, V: Copy> ChainStore for Ordered<'a, K, V> {
 
     type Value = V;
 
-    ghost state = { state_in K.Key.less };
-
-    ghost valid = { Valid K.Key.less };
+    ghost state = { state_in };
 
     ghost Outside = { GName × List (Entry K V) };
 
     ghost outside = { spare };
 
+    #[tactic(auto, using(row::proofs::Rooms::room_small))]
     fn clear(&mut self) {
-        self.remove_all();
+        self.row.clear();
     }
 
     fn count(&self, key: K) -> usize {
@@ -30,30 +29,25 @@ impl<'a, K: Key, V: Copy> ChainStore for Ordered<'a, K, V> {
     }
 
     fn value(&self, key: K, rank: usize) -> Option<V> {
-        match self.find(key, rank) {
-            Some(found) => Some(found.value),
-            None => None,
-        }
+        self.find(key, rank).map(|found| found.value)
     }
 
     fn put(&mut self, key: K, rank: usize, value: V) -> Result<(), Refusal> {
-        match self.place_for(key, rank) {
-            Some(place) => self.insert_at(place, key, rank, value),
-            None => Err(Refusal::PastEnd),
-        }
+        let place = self.place_for(key, rank).ok_or(Refusal::PastEnd)?;
+        self.insert_at(place, key, rank, value)
     }
 
     fn set(&mut self, key: K, rank: usize, value: V) -> bool {
-        match self.find(key, rank) {
-            Some(found) => self.replace_at(found.place, key, rank, value),
-            None => false,
-        }
+        let Some(found) = self.find(key, rank) else {
+            return false;
+        };
+        self.replace_at(found.place, key, rank, value)
     }
 
     fn take(&mut self, key: K, rank: usize) -> bool {
-        match self.find(key, rank) {
-            Some(found) => self.remove_at(found.place, key, rank),
-            None => false,
-        }
+        let Some(found) = self.find(key, rank) else {
+            return false;
+        };
+        self.remove_at(found.place, key, rank)
     }
 }

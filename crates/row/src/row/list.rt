@@ -1,12 +1,12 @@
 // What can be asked of a row, and done to it.
-ghost use Rattle.std.specs.Prelude.{◌≡◌, ◌≤◌, min, true, false, ◌&&◌, [], length, drop, None, count_by, nat_le, nat_lt, slice_set};
+ghost use Rattle.std.specs.Prelude.{◌≡◌, ◌≤◌, Bool, min, true, false, ◌&&◌, [], length, drop, None, count_by, nat_le, nat_lt, slice_set};
 ghost use Rattle.std.specs.List.{insert, remove, slice_get};
+ghost use Rattle.std.specs.Fn.{ComputesKey};
 ghost use Rattle.row.specs.Partition.{Partitioned};
 ghost use Rattle.row.specs.Row.{items, room, outside};
 
 use super::Row;
 use crate::search;
-use crate::search::Predicate;
 
 /// The most items that a row holds, however many cells are lent.
 const MAX_ROOM: usize = 32_768;
@@ -58,15 +58,16 @@ impl<'a, T: Copy> Row<'a, T> {
         }
     }
 
-    /// How many items satisfy `p`, if those that do all stand before those that do not.
-    pub fn partition_point<P: Predicate<T>>(&self, p: &P) -> usize
+    /// How many items satisfy `pred`, if those that do all stand before those that do not.
+    pub fn partition_point<F: Fn(&T) -> bool>(&self, pred: F) -> usize
+        requires { F.IsAlwaysCallable pred }
         ensures within { result ≤ length (items self.now) }
-        ensures point { Partitioned (P.Predicate.holds p.now) (items self.now) → result ≡ count_by (P.Predicate.holds p.now) (items self.now) }
+        ensures point { (p : T → Bool) → ComputesKey F.Fn p pred → Partitioned p (items self.now) → result ≡ count_by p (items self.now) }
     {
         let len = self.len();
         let room = self.capacity();
         let Row { cells, heads, .. } = self;
-        search::partition_point(&cells[0..room], heads, len, p)
+        search::partition_point(&cells[0..room], heads, len, &pred)
     }
 
     /// Lets all items go.

@@ -22,7 +22,7 @@ ring_partition_point-requires g c =
     let lt : a < length cs = omega arith in
     let lb = length_block cs a e (omega arith) (omega arith) in
     let hb = head_below c.args.heads.now b (e - a) (omega arith) in
-    record { some = omega arith; room = omega arith; head = omega arith }
+    record { callable = c.requires.callable; some = omega arith; room = omega arith; head = omega arith }
 
 pub returns : goal.returns
 returns g c =
@@ -36,7 +36,6 @@ returns g c =
     let st : stop ≡ min n e = elim c.if-len-end.branch [ then-len-end w ↦ omega (arith, w.stop-is) | else-len-end w ↦ omega (arith, w.stop-is) ] in
     let lt : a < length cs = omega arith in
     let inside : (o : ℕ) → o < stop - a → o < e - a = λ o ol. omega arith in
-    let p = g.P.Predicate.holds c.args.p.now in
     let r = c.ring_partition_point.result in
     let xs = rings 256 hs cs in
     let z = take (e - a) (drop a cs) in
@@ -49,9 +48,9 @@ returns g c =
     let E : (o : ℕ) (d : _) → o < stop - a → get_or xs (a + o) d ≡ get_or ys o d = λ o d ol. of_block 256 hs cs b e c.requires.heads lt c.block_end-end.ensures o d (inside o ol) ∙ ap (λ (t : List _). get_or t o d) (sym same) in
     record {
       within = le;
-      point = λ part.
+      point = λ p k part.
           (let P = partitioned_front p xs n (omega arith) part in
-          let V = c.ring_partition_point.ensures.window (narrowed p xs ys n (stop - a) a E (omega arith) P) in
-          let W = widened p xs ys n (stop - a) a ((b + 1) * 256) r E (c.find_block-b.ensures.window P) V c.ring_partition_point.ensures.within far in
+          let V = c.ring_partition_point.ensures.window p k (narrowed p xs ys n (stop - a) a E (omega arith) P) in
+          let W = widened p xs ys n (stop - a) a ((b + 1) * 256) r E (c.find_block-b.ensures.window p k P) V c.ring_partition_point.ensures.within far in
           counted p xs n (a + r) W le (omega arith));
     }

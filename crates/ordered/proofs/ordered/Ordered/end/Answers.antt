@@ -1,7 +1,8 @@
-use Rattle.std.proofs.Common.{◌≡◌, ℕ, sym, ap, ◌∙◌}
+use Rattle.std.proofs.Common.{◌≡◌, ℕ, not, sym, ap, rules, ◌∙◌}
 use Rattle.std.specs.List.{slice_get}
+use Rattle.std.proofs.lemmas.Fn.{always_returns_same}
 use Rattle.ordered.specs.Found.{keyed}
-use Rattle.ordered.specs.Sorted.{Sorted, not_greater}
+use Rattle.ordered.specs.Sorted.{not_greater}
 use Rattle.ordered.specs.Store.{entries}
 use Rattle.ordered.proofs.Sorted.{not_greater-count, not_greater-parts}
 use Rattle.ordered.proofs.Effects.{stretch}
@@ -11,11 +12,13 @@ use Rattle.ordered.proofs.ordered.Ordered.end.Goals as goal
 pub returns : goal.returns
 returns g c =
     let o = g.met.K.Key.order in
-    let less = g.K.Key.less in
-    let es = entries c.args.self.now in
+    let self = c.args.self.now in
+    let es = entries self in
     let k = c.args.key in
-    let at : Sorted less es → c.partition_point.result ≡ not_greater less es k = λ s. c.partition_point.ensures.point (not_greater-parts o es k s) ∙ not_greater-count o es k in
+    let at : c.partition_point.result ≡ not_greater g.K.Key.less es k =
+    c.partition_point.ensures.point (λ e. not (g.K.Key.less k e.key)) (always_returns_same _ _ _ (λ a r f' h. search rules)) (not_greater-parts o es k self.sorted)
+    ∙ not_greater-count o es k in
     record {
-      place = λ s. at s ∙ sym (stretch o es k);
-      next = λ s. ap (λ (n : ℕ). keyed (slice_get es n)) (at s) ∙ above_is o es k s;
+      place = at ∙ sym (stretch o es k);
+      next = ap (λ (n : ℕ). keyed (slice_get es n)) at ∙ above_is o es k self.sorted;
     }

@@ -1,40 +1,35 @@
-use Rattle.std.proofs.Common.{◌≡◌, true, List, Err, sym, ap, ◌∙◌, subst}
-use Rattle.std.proofs.lemmas.Bool.{both_ways}
+use Rattle.std.proofs.Common.{◌≡◌, List, Err, refl, ap, ◌∙◌, sym, subst}
 use Rattle.chains.specs.declared.refusal.Refusal.TheVariants.{Full}
 use Rattle.row.specs.Row.{items, room}
 use Rattle.row.specs.declared.row.Row.{Row}
 use Rattle.ordered.specs.declared.cell.Cell.{Cell}
 use Rattle.ordered.specs.Sorted.{Sorted}
 use Rattle.ordered.specs.Store.{state_of}
-use Rattle.ordered.proofs.Calls.{put_in, put_in_full}
+use Rattle.ordered.proofs.Calls.{same_store, sorted_either, put_in, put_in_full}
 use Rattle.ordered.proofs.Effects.{put_sorted}
 use Rattle.ordered.proofs.ordered.Ordered.insert_at.Goals as goal
 
-pub returns-then-insert : goal.returns-then-insert
-returns-then-insert g c =
-    let o = g.met.K.Key.order in
-    let row = c.args.self.now.row in
-    let after = c.insert.new.self in
-    let cell : Cell g.row.K.Denot g.row.V.Denot = record { key = c.args.key; value = c.args.value } in
-    let e = c.insert.ensures.effect c.if-insert.true in
+pub invariant_of-self : goal.invariant_of-self
+invariant_of-self g c =
+    let s = c.args.self.now in
     let P : List (Cell g.row.K.Denot g.row.V.Denot) → Type 0 = λ es. Sorted g.K.Key.less es in
     record {
-      valid = λ s p. subst P (sym e) (put_sorted o (items row) cell c.args.place c.args.rank s p.0 p.1);
-      effect = λ s p. put_in o (items row) (items after) cell c.args.place c.args.rank (room row) (room after) c.insert.result s c.insert.ensures.answer c.if-insert.true p e c.insert.ensures.room;
-      refused = λ q. absurd (both_ways true q (λ _. true));
-      outside = c.insert.ensures.outside;
+      sorted =
+          sorted_either g.K.Key.less s.row c.insert.new.self c.insert.result s.sorted
+          (λ t. subst P (sym (c.insert.ensures.effect t)) (put_sorted g.met.K.Key.order (items s.row) c.args.key c.args.rank c.args.place s.sorted c.requires.0 c.args.value c.requires.1))
+          c.insert.ensures.refused;
     }
 
-pub returns-else-insert : goal.returns-else-insert
-returns-else-insert g c =
-    let row = c.args.self.now.row in
-    let less = g.K.Key.less in
-    let same : c.insert.new.self ≡ row = c.insert.ensures.refused c.if-insert.false in
-    record {
-      valid = λ s _. subst (λ (r : Row (Cell g.row.K.Denot g.row.V.Denot)). Sorted less (items r)) (sym same) s;
-      effect = λ s p.
-          ap (λ (r : Row (Cell g.row.K.Denot g.row.V.Denot)). (Err Full, state_of less (items r) (room r))) same
-          ∙ put_in_full g.met.K.Key.order (items row) c.args.key c.args.value c.args.place c.args.rank (room row) c.insert.result c.insert.ensures.answer c.if-insert.false p;
-      refused = λ _. λ i. record { row = same i };
-      outside = c.insert.ensures.outside;
-    }
+pub returns-then-insert-clause-effect : goal.returns-then-insert-clause-effect
+returns-then-insert-clause-effect g c =
+    let s = c.args.self.now in
+    put_in g.met.K.Key.order (items s.row) _ c.args.key c.args.rank c.args.place (room s.row) _ s.sorted c.requires.0 c.args.value c.requires.1 c.if-insert.ensures.answer (c.if-insert.ensures.effect refl) c.insert.ensures.room
+
+pub returns-else-insert-clause-effect : goal.returns-else-insert-clause-effect
+returns-else-insert-clause-effect g c =
+    let s = c.args.self.now in
+    ap (λ (r : Row (Cell g.row.K.Denot g.row.V.Denot)). (Err Full, state_of g.K.Key.less (items r) (room r))) (c.insert.ensures.refused c.if-insert.false)
+    ∙ put_in_full g.met.K.Key.order (items s.row) (items s.row) c.args.key c.args.rank c.args.place (room s.row) (room s.row) s.sorted c.requires.0 c.args.value c.requires.1 c.if-insert.ensures.answer
+
+pub returns-else-insert-clause-refused : goal.returns-else-insert-clause-refused
+returns-else-insert-clause-refused g c = λ _. same_store _ _ (c.insert.ensures.refused c.if-insert.false)

@@ -1,17 +1,26 @@
+use Rattle.std.proofs.Common.{List, sym, subst}
 use Rattle.row.specs.Row.{items, room}
 use Rattle.ordered.specs.declared.cell.Cell.{Cell}
-use Rattle.ordered.proofs.Calls.{set_in, set_keeps}
+use Rattle.ordered.specs.Sorted.{Sorted}
+use Rattle.ordered.proofs.Calls.{same_store, sorted_either, set_in}
+use Rattle.ordered.proofs.Effects.{set_sorted}
 use Rattle.ordered.proofs.ordered.Ordered.replace_at.Goals as goal
 
-pub returns : goal.returns
-returns g c =
-    let o = g.met.K.Key.order in
-    let row = c.args.self.now.row in
-    let after = c.set.new.self in
-    let cell : Cell g.row.K.Denot g.row.V.Denot = record { key = c.args.key; value = c.args.value } in
+pub invariant_of-self : goal.invariant_of-self
+invariant_of-self g c =
+    let s = c.args.self.now in
+    let P : List (Cell g.row.K.Denot g.row.V.Denot) → Type 0 = λ es. Sorted g.K.Key.less es in
     record {
-      valid = λ s p. set_keeps o (items row) (items after) cell c.args.place c.args.rank c.set.result s p.0 p.1 c.set.ensures.answer c.set.ensures.effect;
-      effect = λ s p. set_in o (items row) (items after) cell c.args.place c.args.rank (room row) (room after) c.set.result s p.0 p.1 c.set.ensures.answer c.set.ensures.effect c.set.ensures.room;
-      refused = λ q. let same = c.set.ensures.refused q in λ i. record { row = same i };
-      outside = c.set.ensures.outside;
+      sorted =
+          sorted_either g.K.Key.less s.row c.set.new.self c.set.result s.sorted
+          (λ t. subst P (sym (c.set.ensures.effect t)) (set_sorted g.met.K.Key.order (items s.row) c.args.key c.args.rank c.args.place s.sorted c.requires.0 c.args.value c.requires.1))
+          c.set.ensures.refused;
     }
+
+pub returns-clause-effect : goal.returns-clause-effect
+returns-clause-effect g c =
+    let s = c.args.self.now in
+    set_in g.met.K.Key.order (items s.row) _ c.args.key c.args.rank c.args.place (room s.row) _ s.sorted c.requires.0 c.args.value c.set.result c.requires.1 c.set.ensures.answer c.set.ensures.effect c.set.ensures.room
+
+pub returns-clause-refused : goal.returns-clause-refused
+returns-clause-refused g c = λ f. same_store _ _ (c.set.ensures.refused f)

@@ -14,14 +14,14 @@ partition_point-requires g c =
     let r = c.args.self.now in
     let h : length r.heads ≡ 128 = omega arith in
     record {
+      callable = c.requires;
       room = omega (arith, length_front_cells r.cells.now c.capacity-room.result c.capacity-room.ensures);
       heads = front_headed r.heads r.cells.now c.capacity-room.result c.capacity-room.ensures h;
     }
 
 pub returns : goal.returns
 returns g c =
-    let p = g.P.Predicate.holds c.args.p.now in
     record {
       within = omega (arith, c.partition_point.ensures.within);
-      point = subst (λ (t : List _). Partitioned p t → c.partition_point.result ≡ count_by p t) (items-here c.args.self.now c.capacity-room.result c.len-len.result c.capacity-room.ensures c.len-len.ensures.len) c.partition_point.ensures.point;
+      point = λ p k. subst (λ (t : List _). Partitioned p t → c.partition_point.result ≡ count_by p t) (items-here c.args.self.now c.capacity-room.result c.len-len.result c.capacity-room.ensures c.len-len.ensures.len) (c.partition_point.ensures.point p k);
     }
