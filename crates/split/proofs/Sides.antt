@@ -1,5 +1,5 @@
 -- Each key belongs to the side of the boundary on which it stands.
-use Rattle.std.proofs.Common.{◌≡◌, Bool, true, false, cond}
+use Rattle.std.proofs.Common.{◌≡◌, Bool, true, false, cond, ◌∙◌}
 use Rattle.std.specs.Option.{option_or}
 use Rattle.keys.specs.Order.{StrictOrder}
 use Rattle.chains.specs.Contents.{first_key, last_key, key_above, key_below}
@@ -27,24 +27,27 @@ module _ {K V : Type 0} {less : K → K → Bool} (o : StrictOrder less) {bounda
   pub high_below : less k boundary ≡ false → key_below less (joined less boundary low high).contents k ≡ option_or (key_below less high.contents k) (last_key low.contents)
   high_below f = below_high o low.contents high.contents k (behind_low o low.contents k boundary f d.below)
 
-  module _ (t : less k boundary ≡ true) {R : Type 0} (call : Call V R) {r : R} {s : StoreState K V} (p : (r, s) ≡ outcome less call low k) where
+-- ---- what a call leaves in its key's own store, it leaves in both together
+
+module _ {K V R : Type 0} {less : K → K → Bool} (o : StrictOrder less) {boundary : K} {low high : StoreState K V} (d : Divided less boundary low high) (call : Call V R) (k : K) (side : Bool) (is : less k boundary ≡ side) where
+  module _ (t : side ≡ true) {r : R} {s : StoreState K V} (p : (r, s) ≡ outcome less call low k) where
     pub low_outcome : (r, joined less boundary s high) ≡ outcome less call (joined less boundary low high) k
     low_outcome =
-        whole_outcome less k call p (λ q. joined less boundary q high) (side-values true t) (low_full less boundary low high d k t)
-        (λ vs i. record (joined less boundary low high) { contents = low_with o low.contents high.contents k vs (before_high o high.contents k boundary t d.from) i })
+        whole_outcome less k call p (λ q. joined less boundary q high) (side-values o d true (is ∙ t)) (low_full less boundary low high d k (is ∙ t))
+        (λ vs i. record (joined less boundary low high) { contents = low_with o low.contents high.contents k vs (before_high o high.contents k boundary (is ∙ t) d.from) i })
 
     pub low_divided : Divided less boundary s high
     low_divided =
         still less k call p (λ q. Divided less boundary q high) d
-        (λ vs. record { below = with_each less (λ j. less j boundary ≡ true) low.contents k vs d.below t; from = d.from })
+        (λ vs. record { below = with_each less (λ j. less j boundary ≡ true) low.contents k vs d.below (is ∙ t); from = d.from })
 
-  module _ (f : less k boundary ≡ false) {R : Type 0} (call : Call V R) {r : R} {s : StoreState K V} (p : (r, s) ≡ outcome less call high k) where
+  module _ (f : side ≡ false) {r : R} {s : StoreState K V} (p : (r, s) ≡ outcome less call high k) where
     pub high_outcome : (r, joined less boundary low s) ≡ outcome less call (joined less boundary low high) k
     high_outcome =
-        whole_outcome less k call p (λ q. joined less boundary low q) (side-values false f) (high_full less boundary low high d k f)
-        (λ vs i. record (joined less boundary low high) { contents = high_with o low.contents high.contents k vs (behind_low o low.contents k boundary f d.below) i })
+        whole_outcome less k call p (λ q. joined less boundary low q) (side-values o d false (is ∙ f)) (high_full less boundary low high d k (is ∙ f))
+        (λ vs i. record (joined less boundary low high) { contents = high_with o low.contents high.contents k vs (behind_low o low.contents k boundary (is ∙ f) d.below) i })
 
     pub high_divided : Divided less boundary low s
     high_divided =
         still less k call p (λ q. Divided less boundary low q) d
-        (λ vs. record { below = d.below; from = with_each less (λ j. less j boundary ≡ false) high.contents k vs d.from f })
+        (λ vs. record { below = d.below; from = with_each less (λ j. less j boundary ≡ false) high.contents k vs d.from (is ∙ f) })
