@@ -39,7 +39,7 @@ module _ {K V R : Type 0} {less : K → K → Bool} (o : StrictOrder less) {boun
     pub low_divided : Divided less boundary s high
     low_divided =
         still less k call p (λ q. Divided less boundary q high) d
-        (λ vs. record { below = with_each less (λ j. less j boundary ≡ true) low.contents k vs d.below (is ∙ t); from = d.from })
+        (λ vs. record { below = with_each (λ j. less j boundary ≡ true) less low.contents k vs d.below (is ∙ t); from = d.from })
 
   module _ (f : side ≡ false) {r : R} {s : StoreState K V} (p : (r, s) ≡ outcome less call high k) where
     pub high_outcome : (r, joined less boundary low s) ≡ outcome less call (joined less boundary low high) k
@@ -50,4 +50,4 @@ module _ {K V R : Type 0} {less : K → K → Bool} (o : StrictOrder less) {boun
     pub high_divided : Divided less boundary low s
     high_divided =
         still less k call p (λ q. Divided less boundary low q) d
-        (λ vs. record { below = d.below; from = with_each less (λ j. less j boundary ≡ false) high.contents k vs d.from (is ∙ f) })
+        (λ vs. record { below = d.below; from = with_each (λ j. less j boundary ≡ false) less high.contents k vs d.from (is ∙ f) })
