@@ -1,5 +1,5 @@
 -- The last and the neighbouring keys of contents in two parts.
-use Rattle.std.proofs.Common.{◌≡◌, Bool, true, false, List, [], ◌∷◌, ◌++◌, Some, None, Option, refl, ap, ◌∙◌, arith}
+use Rattle.std.proofs.Common.{◌≡◌, Bool, List, [], ◌∷◌, ◌++◌, Some, None, Option, refl, arith}
 use Rattle.std.specs.Option.{option_or}
 use Rattle.keys.specs.Order.{StrictOrder}
 use Rattle.chains.specs.Contents.{BelowAll, or_else, first_key, last_key, key_above, key_below}
@@ -7,17 +7,15 @@ use Rattle.chains.proofs.Orders.{asymmetric}
 use Rattle.split.specs.Joined.{AllBelow}
 
 or_none : {K : Type 0} (p : Option K) → p ≡ option_or p None
-or_none (Some j) = refl
-or_none None = refl
+or_none p = grind arith
 
 or_behind : {K : Type 0} (p q : Option K) (k : K) → or_else (option_or p q) k ≡ option_or p (or_else q k)
-or_behind (Some j) q k = refl
-or_behind None q k = refl
+or_behind p q k = grind arith
 
 module _ {K V : Type 0} where
   pub last-append : (xs ys : List (K × List V)) → last_key (xs ++ ys) ≡ option_or (last_key ys) (last_key xs)
-  last-append [] ys = or_none (last_key ys)
-  last-append (x ∷ xs) ys = ap (λ p. or_else p x.0) (last-append xs ys) ∙ or_behind (last_key ys) (last_key xs) x.0
+  last-append [] ys = grind arith
+  last-append (x ∷ xs) ys = let ih = last-append xs ys in grind arith
 
 module _ {K V : Type 0} {less : K → K → Bool} (o : StrictOrder less) where
   -- ---- of a key that stands before ys
@@ -39,5 +37,5 @@ module _ {K V : Type 0} {less : K → K → Bool} (o : StrictOrder less) where
   above_high (x ∷ xs) ys k u = rw (asymmetric o x.0 k u.0, above_high xs ys k u.1)
 
   pub below_high : (xs ys : List (K × List V)) (k : K) → AllBelow less k xs → key_below less (xs ++ ys) k ≡ option_or (key_below less ys k) (last_key xs)
-  below_high [] ys k u = or_none (key_below less ys k)
-  below_high (x ∷ xs) ys k u = rw (u.0, below_high xs ys k u.1) (or_behind (key_below less ys k) (last_key xs) x.0)
+  below_high [] ys k u = grind arith
+  below_high (x ∷ xs) ys k u = let ih = below_high xs ys k u.1 in rw u.0 (grind arith)

@@ -8,7 +8,7 @@ use Rattle.split.specs.Joined.{joined, Divided}
 use Rattle.split.proofs.Contents.{before_high, behind_low, low_sequence, high_sequence, low_with, high_with, with_each}
 use Rattle.split.proofs.Neighbours.{above_low, below_low, above_high, below_high}
 use Rattle.split.proofs.Sections.{low_full, high_full}
-use Rattle.split.proofs.Outcomes.{Call, outcome, whole_outcome, still}
+use Rattle.split.proofs.Outcomes.{Run, Call, outcome, whole_outcome, still}
 
 module _ {K V : Type 0} {less : K → K → Bool} (o : StrictOrder less) {boundary : K} {low high : StoreState K V} (d : Divided less boundary low high) {k : K} where
   pub side-values : (side : Bool) → less k boundary ≡ side → values less (joined less boundary low high) k ≡ cond side (values less low k) (values less high k)
@@ -29,9 +29,9 @@ module _ {K V : Type 0} {less : K → K → Bool} (o : StrictOrder less) {bounda
 
 -- ---- what a call leaves in its key's own store, it leaves in both together
 
-module _ {K V R : Type 0} {less : K → K → Bool} (o : StrictOrder less) {boundary : K} {low high : StoreState K V} (d : Divided less boundary low high) (call : Call V R) (k : K) (side : Bool) (is : less k boundary ≡ side) where
-  module _ (t : side ≡ true) {r : R} {s : StoreState K V} (p : (r, s) ≡ outcome less call low k) where
-    pub low_outcome : (r, joined less boundary s high) ≡ outcome less call (joined less boundary low high) k
+module _ {K V R : Type 0} {less : K → K → Bool} (o : StrictOrder less) {boundary : K} {low high : StoreState K V} (d : Divided less boundary low high) {run : Run V R} (call : Call run) (k : K) (side : Bool) (is : less k boundary ≡ side) where
+  module _ (t : side ≡ true) {r : R} {s : StoreState K V} (p : (r, s) ≡ outcome less run low k) where
+    pub low_outcome : (r, joined less boundary s high) ≡ outcome less run (joined less boundary low high) k
     low_outcome =
         whole_outcome less k call p (λ q. joined less boundary q high) (side-values o d true (is ∙ t)) (low_full less boundary low high d k (is ∙ t))
         (λ vs i. record (joined less boundary low high) { contents = low_with o low.contents high.contents k vs (before_high o high.contents k boundary (is ∙ t) d.from) i })
@@ -41,8 +41,8 @@ module _ {K V R : Type 0} {less : K → K → Bool} (o : StrictOrder less) {boun
         still less k call p (λ q. Divided less boundary q high) d
         (λ vs. record { below = with_each (λ j. less j boundary ≡ true) less low.contents k vs d.below (is ∙ t); from = d.from })
 
-  module _ (f : side ≡ false) {r : R} {s : StoreState K V} (p : (r, s) ≡ outcome less call high k) where
-    pub high_outcome : (r, joined less boundary low s) ≡ outcome less call (joined less boundary low high) k
+  module _ (f : side ≡ false) {r : R} {s : StoreState K V} (p : (r, s) ≡ outcome less run high k) where
+    pub high_outcome : (r, joined less boundary low s) ≡ outcome less run (joined less boundary low high) k
     high_outcome =
         whole_outcome less k call p (λ q. joined less boundary low q) (side-values o d false (is ∙ f)) (high_full less boundary low high d k (is ∙ f))
         (λ vs i. record (joined less boundary low high) { contents = high_with o low.contents high.contents k vs (behind_low o low.contents k boundary (is ∙ f) d.below) i })
