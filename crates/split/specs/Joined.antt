@@ -1,5 +1,6 @@
 -- Two states joined at a boundary key: the smaller keys in the low one, all others in the high one.
 use Rattle.std.specs.Prelude.{◌≡◌, ℕ, ◌+◌, ◌*◌, ◌/◌, ◌%◌, Bool, true, false, cond, List, [], ◌∷◌, ◌++◌, ◌==◌}
+use Rattle.std.specs.Coded.{Coded-set, coded_bool, ×_prop, Unit-prop}
 use Rattle.chains.specs.State.{StoreState}
 
 -- P holds of each listed key
@@ -19,6 +20,17 @@ NoneBelow less k es = EachKey (λ j. less j k ≡ false) es
 pub record Divided {K V : Type 0} (less : K → K → Bool) (boundary : K) (low high : StoreState K V) : Type 0 where
   pub below : AllBelow less boundary low.contents
   pub from : NoneBelow less boundary high.contents
+
+-- there is one proof at most that keys stand on their side
+each-prop : {K V : Type 0} (P : K → Type 0) → ((k : K) → IsProp (P k)) → (es : List (K × List V)) → IsProp (EachKey P es)
+each-prop P p [] = Unit-prop
+each-prop P p (e ∷ es) = ×_prop (p e.0) (each-prop P p es)
+
+pub Divided-prop : {K V : Type 0} (less : K → K → Bool) (boundary : K) (low high : StoreState K V) → IsProp (Divided less boundary low high)
+Divided-prop less boundary low high x y i = record {
+  below = each-prop (λ k. less k boundary ≡ true) (λ k. Coded-set coded_bool (less k boundary) true) low.contents x.below y.below i;
+  from = each-prop (λ k. less k boundary ≡ false) (λ k. Coded-set coded_bool (less k boundary) false) high.contents x.from y.from i;
+}
 
 -- the sections of both, the low state's under the even numbers, the high state's under the odd ones
 abbrev pub section_of : {K : Type 0} → (K → K → Bool) → K → (K → ℕ) → (K → ℕ) → K → ℕ

@@ -1,26 +1,24 @@
 // The calls of a store, each passed to the store of its key.
-ghost use Rattle.split.specs.Store.{state as state_of, Valid, outside as outside_of};
+ghost use Rattle.split.specs.Store.{state as state_of, outside as outside_of};
 
 use super::Split;
 use chains::{ChainStore, Refusal};
 use keys::Key;
 
-impl<A: ChainStore, B: ChainStore<Key = A::Key, Value = A::Value>> ChainStore
-    for Split<A, B, A::Key> {
+impl<A: ChainStore, B: ChainStore<Key = A::Key, Value = A::Value>> ChainStore for Split<A, B> {
     type Key = A::Key;
 
     type Value = A::Value;
 
-    ghost state = { state_of A.Key.Key.less A.ChainStore.state B.ChainStore.state };
-
-    ghost valid = { Valid A.Key.Key.less A.ChainStore.state B.ChainStore.state A.ChainStore.valid B.ChainStore.valid };
+    ghost state = { state_of };
 
     ghost Outside = { A.ChainStore.Outside × B.ChainStore.Outside };
 
-    ghost outside = { outside_of A.ChainStore.outside B.ChainStore.outside };
+    ghost outside = { outside_of };
 
     fn clear(&mut self) {
-        self.clear_both();
+        self.low.clear();
+        self.high.clear();
     }
 
     fn count(&self, key: A::Key) -> usize {
@@ -40,14 +38,26 @@ impl<A: ChainStore, B: ChainStore<Key = A::Key, Value = A::Value>> ChainStore
     }
 
     fn put(&mut self, key: A::Key, rank: usize, value: A::Value) -> Result<(), Refusal> {
-        self.put_on_side(key, rank, value)
+        if self.is_low(key) {
+            self.low.put(key, rank, value)
+        } else {
+            self.high.put(key, rank, value)
+        }
     }
 
     fn set(&mut self, key: A::Key, rank: usize, value: A::Value) -> bool {
-        self.set_on_side(key, rank, value)
+        if self.is_low(key) {
+            self.low.set(key, rank, value)
+        } else {
+            self.high.set(key, rank, value)
+        }
     }
 
     fn take(&mut self, key: A::Key, rank: usize) -> bool {
-        self.take_on_side(key, rank)
+        if self.is_low(key) {
+            self.low.take(key, rank)
+        } else {
+            self.high.take(key, rank)
+        }
     }
 }

@@ -1,0 +1,23 @@
+use Rattle.std.proofs.Common.{refl}
+use Rattle.split.proofs.Outcomes.{take}
+use Rattle.split.proofs.Same.{same_split}
+use Rattle.split.proofs.Sides.{low_outcome, low_divided, high_outcome, high_divided}
+use Rattle.split.proofs.split.store.SplitChainStore.take.Goals as goal
+
+pub invariant_of-self : goal.invariant_of-self
+invariant_of-self g c = record { divided = search (low_divided g.met.A.Key.Key.order c.args.self.now.divided (take g.row.A-Value.Denot c.args.rank)) }
+
+pub invariant_of-self-else-is_low : goal.invariant_of-self-else-is_low
+invariant_of-self-else-is_low g c = record { divided = search (high_divided g.met.A.Key.Key.order c.args.self.now.divided (take g.row.A-Value.Denot c.args.rank)) }
+
+pub returns-then-is_low-clause-effect : goal.returns-then-is_low-clause-effect
+returns-then-is_low-clause-effect g c = search (low_outcome g.met.A.Key.Key.order c.args.self.now.divided (take g.row.A-Value.Denot c.args.rank))
+
+pub returns-else-is_low-clause-effect : goal.returns-else-is_low-clause-effect
+returns-else-is_low-clause-effect g c = search (high_outcome g.met.A.Key.Key.order c.args.self.now.divided (take g.row.A-Value.Denot c.args.rank))
+
+pub returns-then-is_low-clause-refused : goal.returns-then-is_low-clause-refused
+returns-then-is_low-clause-refused g c h = same_split _ _ (c.take.ensures.refused h) refl refl
+
+pub returns-else-is_low-clause-refused : goal.returns-else-is_low-clause-refused
+returns-else-is_low-clause-refused g c h = same_split _ _ refl (c.take-else-is_low.ensures.refused h) refl
