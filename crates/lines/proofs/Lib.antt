@@ -1,3 +1,4 @@
 mod Kept
+mod Blocks
 pub mod Spaces
 pub mod Numerals

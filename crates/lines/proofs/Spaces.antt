@@ -1,23 +1,7 @@
 -- The first space of a line, and the fields before and after it.
-use Rattle.std.proofs.Common.{◌≡◌, ℕ, ◌+◌, ◌<◌, eqb, List, [], ◌∷◌, ◌++◌, length, get_or, take, drop, sym, refl, ap, ◌∙◌, arith, ne_eqb}
-use Rattle.std.proofs.ByRecursion.{All-from_get_or}
-use Rattle.std.proofs.lemmas.List.{drop_more, take-append-drop, get_or-take, length-take-le}
+use Rattle.std.proofs.Common.{◌≡◌, ℕ, ◌<◌, eqb, List, [], ◌∷◌, ◌++◌, length, sym, refl, ap, ◌∙◌, arith, ne_eqb}
 use Rattle.std.proofs.lemmas.Bool.{cond-false, cond_both, eqb-true}
 use Rattle.lines.specs.Fields.{Spaceless, onto_first, fields}
-use Rattle.lines.specs.Position.{Absent}
-
--- a line parted at the byte i, which is a space
-pub parted : (line : List ℕ) (i : ℕ) → i < length line → get_or line i 0 ≡ 32 → line ≡ take i line ++ 32 ∷ drop (i + 1) line
-parted line i h e =
-    sym (take-append-drop i line) ∙ ap (λ l. take i line ++ l) (drop_more line i 0 h ∙ ap (λ b. b ∷ drop (i + 1) line) e)
-
--- where no space stands up to the end, or up to the byte i
-pub spaceless_whole : (line : List ℕ) → Absent 32 line (length line) → Spaceless line
-spaceless_whole line h = All-from_get_or (λ b. b ≡ 32 → ⊥) line 0 h
-
-pub spaceless_front : (line : List ℕ) (i : ℕ) → i < length line → Absent 32 line i → Spaceless (take i line)
-spaceless_front line i l h =
-    All-from_get_or (λ b. b ≡ 32 → ⊥) (take i line) 0 (λ k m. let n : k < i = omega (arith, length-take-le i line (omega arith)) in rw get_or-take (h k n))
 
 -- the fields of a line with a space, and of one with none
 pub first_field : (key rest : List ℕ) → Spaceless key → fields (key ++ 32 ∷ rest) ≡ key ∷ fields rest

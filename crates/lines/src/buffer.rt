@@ -1,6 +1,9 @@
 // The line that is being read. Its methods stand in a module of their own, since their contracts
 // cite a definition over the struct.
-ghost use Rattle.std.specs.Prelude.{◌≡◌, ◌≤◌, length};
+ghost use Rattle.std.specs.Prelude.{◌≤◌};
+ghost use Rattle.arrayvec.specs.ArrayVec.{array_vec_len};
+
+use arrayvec::ArrayVec;
 
 mod methods;
 
@@ -13,8 +16,6 @@ const KEPT: usize = 257;
 /// The first 257 bytes of a line.
 #[derive(Drop)]
 pub struct LineBuffer {
-    bytes: [u8; KEPT],
-    len: usize,
-    ghost within: { len ≤ 257 },
-    ghost whole: { length bytes ≡ 257 },
+    bytes: ArrayVec<u8, KEPT>,
+    ghost within: { array_vec_len bytes ≤ 257 },
 }

@@ -5,5 +5,4 @@ pub mod buffer;
 pub mod field;
 pub mod number;
 pub mod output;
-mod position;
 pub mod reader;

@@ -38,9 +38,7 @@ impl<W: Write + Drop> Output<W> {
         ensures written { self.new.error ≡ None → IfSome (D.output text) (Appends (writer_contents W.contents self.old.writer) (writer_contents W.contents self.new.writer)) }
     {
         if self.error.is_none() {
-            if let Err(e) = write!(self.writer, "{text}") {
-                self.error = Some(e);
-            }
+            self.error = write!(self.writer, "{text}").err();
         }
     }
 

@@ -1,11 +1,12 @@
 // Filling a line's buffer and reading it.
-ghost use Rattle.std.specs.Prelude.{◌≡◌, ◌<◌, [], ◌∷◌, ◌++◌, length, take, nat_le};
+ghost use Rattle.std.specs.Prelude.{◌≡◌, [], ◌∷◌, ◌++◌, length, take};
 ghost use Rattle.std.specs.Option.{unwrap_or};
 ghost use Rattle.lines.specs.Buffer.{contents, kept};
 ghost use Rattle.lines.specs.Position.{FirstPlace};
 
-use super::{KEPT, LineBuffer};
-use crate::position::position;
+use super::LineBuffer;
+use arrayvec::ArrayVec;
+use std::io::Write;
 
 impl LineBuffer {
     /// An empty line.
@@ -13,8 +14,7 @@ impl LineBuffer {
         ensures { contents result ≡ [] }
     {
         LineBuffer {
-            bytes: [0; KEPT],
-            len: 0,
+            bytes: ArrayVec::new(),
         }
     }
 
@@ -22,25 +22,21 @@ impl LineBuffer {
     pub fn clear(&mut self)
         ensures { contents self.new ≡ [] }
     {
-        self.len = 0;
+        self.bytes.clear();
     }
 
     /// What is kept of the line.
     pub fn as_bytes(&self) -> &[u8]
         ensures { result.now ≡ contents self.now }
     {
-        &self.bytes[0..self.len]
+        self.bytes.as_slice()
     }
 
     /// Adds a byte to the line.
     pub fn push(&mut self, byte: u8)
         ensures { contents self.new ≡ kept (contents self.old ++ byte ∷ []) }
     {
-        if self.is_full() {
-            return;
-        }
-        self.bytes[self.len] = byte;
-        self.len += 1;
+        self.extend(&[byte]);
     }
 
     /// Adds a block up to the line's end, and answers where in the block the end is, if it is there.
@@ -48,22 +44,15 @@ impl LineBuffer {
         ensures end { FirstPlace 10 block.now result }
         ensures added { contents self.new ≡ kept (contents self.old ++ take (unwrap_or result (length block.now)) block.now) }
     {
-        let end = position(block, b'\n');
-        self.extend(&block[0..end.unwrap_or(block.len())]);
+        let end = block.iter().position(|&b| b == b'\n');
+        self.extend(&block[..end.unwrap_or(block.len())]);
         end
     }
 
-    fn is_full(&self) -> bool
-        ensures { result ≡ nat_le 257 self.now.len }
-    {
-        self.len >= KEPT
-    }
-
+    // A write takes as many bytes as there is room for.
     fn extend(&mut self, bytes: &[u8])
         ensures { contents self.new ≡ kept (contents self.old ++ bytes.now) }
     {
-        for byte in bytes {
-            self.push(*byte);
-        }
+        let _taken = self.bytes.write(bytes);
     }
 }

@@ -1,16 +1,18 @@
-use Rattle.std.proofs.Common.{[], ◌∷◌, ◌++◌, get_or, ap, ◌∙◌, arith}
-use Rattle.std.proofs.lemmas.List.{take_all}
-use Rattle.lines.specs.Buffer.{contents, kept}
-use Rattle.lines.proofs.Kept.{start, more}
+use Rattle.std.proofs.Common.{◌≤◌, Some, length, sym, ◌∙◌, subst}
+use Rattle.std.specs.Io.KnownBytes.{WriteAppends}
+use Rattle.lines.proofs.Kept.{filled, within}
 use Rattle.lines.proofs.buffer.LineBuffer.extend.Goals as goal
-
-pub loop-byte-init : goal.loop-byte-init
-loop-byte-init c = start c.args.self.now.bytes c.args.self.now.len c.args.self.now.whole (omega arith)
-
-pub loop-byte-preserved : goal.loop-byte-preserved
-loop-byte-preserved c =
-    c.push.ensures ∙ ap (λ line. kept (line ++ get_or c.args.bytes.now c.loop-byte.byte-index 0 ∷ [])) c.loop-byte.invariant ∙ more _ c.args.bytes.now c.loop-byte.byte-index (omega arith)
 
 pub returns : goal.returns
 returns c =
-    c.loop-byte.invariant ∙ ap (λ l. kept (contents c.args.self.now ++ l)) (take_all c.loop-byte.byte-index c.args.bytes.now c.loop-byte-test.false)
+    let line = c.args.self.now.bytes.items in
+    let written = c.write-taken.new.self.items in
+    let added = subst (λ r. WriteAppends (Some line) (Some written) r c.args.bytes.now) c.write-taken.ensures.count c.write-taken.ensures.bytes in
+    added ∙ filled line c.args.bytes.now c.args.self.now.within
+
+pub invariant_of-self : goal.invariant_of-self
+invariant_of-self c =
+    let line = c.args.self.now.bytes.items in
+    let written = c.write-taken.new.self.items in
+    let added = subst (λ r. WriteAppends (Some line) (Some written) r c.args.bytes.now) c.write-taken.ensures.count c.write-taken.ensures.bytes in
+    record { within = subst (λ l. length l ≤ 257) (sym added) (within line c.args.bytes.now c.args.self.now.within) }

@@ -1,9 +1,10 @@
-use Rattle.std.proofs.Common.{◌≡◌, ◌≤◌, false, []}
+use Rattle.std.proofs.Common.{◌≡◌}
+use Rattle.std.specs.Io.Buffered.{reader_remaining}
 use Rattle.lines.specs.Buffer.{contents}
+use Rattle.lines.proofs.Blocks.{Reading}
 use Rattle.lines.proofs.reader.Reader.read_line.Given as goal
 
-abbrev pub invariant-loop-self : goal.invariant-loop-self
-invariant-loop-self g l = (l.self.budget ≤ l.initial.self.budget) × (l.self.error ≡ l.initial.self.error) × (l.is_line ≡ false → contents l.self.line ≡ [])
-
-abbrev pub decreases-loop-self : goal.decreases-loop-self
-decreases-loop-self g l = l.self.budget
+abbrev pub invariant-loop-left : goal.invariant-loop-left
+invariant-loop-left g l =
+    let left = reader_remaining g.R.Read.remaining in
+    (l.self.error ≡ l.fn.self.error) × Reading (left l.fn.self.input) (left l.self.input) (contents l.self.line)
