@@ -1,4 +1,3 @@
 mod Forms
-mod Validity
 mod Walks
 mod Texts

@@ -1,5 +1,5 @@
 -- A walk over contents by key, from the first to the one above, is a walk over the list.
-use Rattle.std.proofs.Common.{◌≡◌, ℕ, zero, suc, ◌<◌, Bool, true, false, List, [], ◌∷◌, length, drop, Some, None, sym, refl, ap, ◌∙◌, arith}
+use Rattle.std.proofs.Common.{◌≡◌, ℕ, zero, suc, ◌<◌, ◌++◌, take, Bool, true, false, List, [], ◌∷◌, length, drop, Some, None, sym, refl, ap, ◌∙◌, arith}
 use Rattle.std.specs.List.{slice_get}
 use Rattle.keys.specs.Order.{StrictOrder}
 use Rattle.chains.specs.Contents.{sequence, BelowAll, Ascending, first_key, key_above}
@@ -7,21 +7,19 @@ use Rattle.chains.proofs.Orders.{asymmetric, same_refl, same_less}
 
 -- ---- by place
 
-pub drop_nth : {X : Type 0} (xs : List X) (i : ℕ) (x : X) → slice_get xs i ≡ Some x → drop i xs ≡ x ∷ drop (suc i) xs
+drop_nth : {X : Type 0} (xs : List X) (i : ℕ) (x : X) → slice_get xs i ≡ Some x → drop i xs ≡ x ∷ drop (suc i) xs
 drop_nth [] i x h = let z : ◌≡◌ {A = ℕ} 0 1 = cc in absurd (omega arith)
 drop_nth (y ∷ xs) zero x h = let e : y ≡ x = cc in ap (λ (z : _). z ∷ xs) e
 drop_nth (y ∷ xs) (suc i) x h = drop_nth xs i x h
 
-pub drop_nth_none : {X : Type 0} (xs : List X) (i : ℕ) → slice_get xs i ≡ None → drop i xs ≡ []
-drop_nth_none [] zero h = refl
-drop_nth_none [] (suc i) h = refl
-drop_nth_none (y ∷ xs) zero h = let z : ◌≡◌ {A = ℕ} 0 1 = cc in absurd (omega arith)
-drop_nth_none (y ∷ xs) (suc i) h = drop_nth_none xs i h
+pub take_dropped : {X : Type 0} (xs : List X) (i : ℕ) (x : X) → drop i xs ≡ x ∷ drop (suc i) xs → take (suc i) xs ≡ take i xs ++ x ∷ []
+take_dropped [] zero x h = let z : ◌≡◌ {A = ℕ} 0 1 = ap length h in absurd (omega arith)
+take_dropped [] (suc i) x h = let z : ◌≡◌ {A = ℕ} 0 1 = ap length h in absurd (omega arith)
+take_dropped (y ∷ xs) zero x h = let e : y ≡ x = cc in ap (λ (z : _). z ∷ []) e
+take_dropped (y ∷ xs) (suc i) x h = ap (λ (zs : _). y ∷ zs) (take_dropped xs i x h)
 
-pub nth_within : {X : Type 0} (xs : List X) (i : ℕ) (x : X) → slice_get xs i ≡ Some x → i < length xs
-nth_within [] i x h = let z : ◌≡◌ {A = ℕ} 0 1 = cc in absurd (omega arith)
-nth_within (y ∷ xs) zero x h = omega arith
-nth_within (y ∷ xs) (suc i) x h = let z = nth_within xs i x h in omega arith
+pub take_nth : {X : Type 0} (xs : List X) (i : ℕ) (x : X) → slice_get xs i ≡ Some x → take (suc i) xs ≡ take i xs ++ x ∷ []
+take_nth xs i x h = take_dropped xs i x (drop_nth xs i x h)
 
 -- ---- by key
 

@@ -1,4 +1,3 @@
 pub mod Lines
-pub mod Store
 pub mod Report
 pub mod Listing

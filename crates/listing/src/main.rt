@@ -29,13 +29,9 @@ fn run(rt: &HostRuntime) -> io::Result<()> {
     let mut lines = Reader::new(rt.alloc(), rt.stdin())?;
     let mut out = Output::new(rt.alloc(), rt.stdout())?;
     read(&mut lines, &mut listing, &mut out);
-    let report = listing.report(rt.alloc());
-    if let Ok(text) = &report {
-        out.text(text);
-    }
+    out.text(&listing);
     let written = out.finish();
     lines.finish()?;
-    report?;
     written
 }
 
@@ -49,7 +45,7 @@ fn read<R: Read, W: Write + Drop>(
         match parse(lines.line()) {
             Line::Entry { key, place } => {
                 if let Err(refusal) = listing.add(key, place) {
-                    out.line(format_args!("refused {}", refusal.number()));
+                    out.line(format_args!("refused {}", u8::from(refusal)));
                 }
             }
             Line::Malformed => out.line("?"),
