@@ -1,7 +1,6 @@
 use Rattle.std.proofs.Common.{◌≡◌, ◌+◌, ◌*◌, ◌/◌, List, length, sym, refl, ap, ◌∙◌, arith}
 use Rattle.std.specs.List.{insert}
 use Rattle.row.specs.Row.{room, outside, order, block_end}
-use Rattle.row.proofs.Cascade.{Pending}
 use Rattle.row.proofs.Lists.{grown}
 use Rattle.row.proofs.Rooms.{length-items, length-order, items-order, kept_again}
 use Rattle.row.proofs.row.Row.insert.Goals as goal

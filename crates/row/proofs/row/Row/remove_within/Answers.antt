@@ -1,4 +1,4 @@
-use Rattle.std.proofs.Common.{◌≡◌, ◌-◌, ◌/◌, length, min, take, drop, refl, ◌∙◌, arith}
+use Rattle.std.proofs.Common.{◌≡◌, ◌-◌, ◌/◌, length, min, refl, ◌∙◌, arith}
 use Rattle.row.specs.Row.{room, block_end}
 use Rattle.row.proofs.Rooms.{block_in, kept_by}
 use Rattle.row.proofs.Rings.{length_block, passed_on}
