@@ -1,32 +1,22 @@
 -- The heads of blocks.
-use Rattle.std.proofs.Common.{◌≡◌, ℕ, ◌*◌, ◌<◌, ◌≤◌, List, length, get_or, set, subst, ⊎_elim, mul-le-mul_right, arith}
-use Rattle.std.proofs.lemmas.List.{length-set, take_all, drop_all, append-nil}
-use Rattle.std.proofs.lemmas.Bool.{cases_lt, lt-ltb, le-ltb}
-use Rattle.row.specs.Rings.{ring, Headed, head_in}
+use Rattle.std.proofs.Common.{◌≡◌, ℕ, ◌+◌, ◌*◌, ◌<◌, ◌≤◌, List, length, get_or, set, replicate, ⊎_elim, arith}
+use Rattle.std.proofs.lemmas.Bool.{cases_eq}
+use Rattle.std.proofs.lemmas.List.{get_or-replicate, length-replicate, length-set, get_or-set_same, get_or-set_other}
+use Rattle.row.specs.Rings.{HeadsWithin}
 
--- enough heads for the room
-pub headed_by : (w : ℕ) (hs : List ℕ) (n : ℕ) → n ≤ length hs * w → Headed w hs n
-headed_by w hs n le b lt =
-    ⊎_elim (λ h. h) (λ (h : length hs ≤ b). let m : length hs * w ≤ b * w = mul-le-mul_right w h in absurd (omega arith)) (cases_lt b (length hs))
+-- heads at the first cells of their blocks
+pub headed_start : (n m : ℕ) → m ≤ n * 256 → HeadsWithin 256 (replicate n 0) m
+headed_start n m le b lt =
+    let z : get_or (replicate {A = ℕ} n 0) b 0 ≡ 0 = get_or-replicate n b 0 0 (omega arith) in
+    let l : length (replicate {A = ℕ} n 0) ≡ n = length-replicate n 0 in
+    (omega arith, omega arith, omega arith)
 
-pub headed_set : (w : ℕ) (hs : List ℕ) (n b h : ℕ) → Headed w hs n → Headed w (set hs b h) n
-headed_set w hs n b h S j jn = let l = length-set hs b h in let s = S j jn in omega arith
-
-pub headed_room : (w : ℕ) (hs : List ℕ) (n m : ℕ) → n ≡ m → Headed w hs n → Headed w hs m
-headed_room w hs n m e S = subst (λ (v : ℕ). Headed w hs v) e S
-
-pub head_below : (hs : List ℕ) (b k : ℕ) → 0 < k → head_in hs b k < k
-head_below hs b k pos =
+-- a head that moves within its block
+pub headed_set : (w : ℕ) (hs : List ℕ) (n b h : ℕ) → HeadsWithin w hs n → h < w → b * w + h < n → HeadsWithin w (set hs b h) n
+headed_set w hs n b h S hw hn j jn =
+    let s = S j jn in
+    let l = length-set hs b h in
     ⊎_elim
-    (λ (h : get_or hs b 0 < k). let t = lt-ltb (get_or hs b 0) k h in rw t h)
-    (λ (h : k ≤ get_or hs b 0). let t = le-ltb (get_or hs b 0) k h in rw t pos)
-    (cases_lt (get_or hs b 0) k)
-
--- a head past the block's end turns nothing, nor does its first cell
-pub ring_head : {X : Type 0} (hs : List ℕ) (b k : ℕ) (z : List X) → length z ≡ k → ring (head_in hs b k) z ≡ ring (get_or hs b 0) z
-ring_head hs b k z l =
-    ⊎_elim
-    (λ (h : get_or hs b 0 < k). let t = lt-ltb (get_or hs b 0) k h in rw t)
-    (λ (h : k ≤ get_or hs b 0). let t = le-ltb (get_or hs b 0) k h in
-    rw (t, drop_all (get_or hs b 0) z (omega arith), take_all (get_or hs b 0) z (omega arith), append-nil z))
-    (cases_lt (get_or hs b 0) k)
+    (λ (e : j ≡ b). let r : get_or (set hs b h) j 0 ≡ h = rw e (get_or-set_same hs b h 0 (omega arith)) in (omega arith, omega arith, rw (r, e) hn))
+    (λ (ne : j ≡ b → ⊥). let r : get_or (set hs b h) j 0 ≡ get_or hs j 0 = get_or-set_other hs b j h 0 ne in (omega arith, omega arith, omega arith))
+    (cases_eq j b)

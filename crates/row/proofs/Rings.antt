@@ -4,9 +4,9 @@ use lib.Seq.{take-set-lt}
 use borrow.Rule.Slice.PartMut.{put_mid}
 use Rattle.std.proofs.lemmas.List.{take_at, drop_at, append_assoc, append-nil, take-append-drop, take-append-le, drop-append-le, length-take-le, length-drop, length-append, length-take, nil_from_length, take_all, drop_all, set_split, set-get_or, set-append_left, set-append_right, drop-set-add, drop-set-lt, take-set-le, length-set, get_or_append_left, get_or-append_right, get_or-take, get_or-drop}
 use Rattle.std.proofs.lemmas.Bool.{cases_lt}
-use Rattle.row.specs.Rings.{ring, rings, Headed, head_in}
-use Rattle.row.proofs.Lists.{put_back, length_block, set_mid}
-use Rattle.row.proofs.Heads.{head_below, ring_head}
+use Rattle.row.specs.Rings.{ring, rings}
+use Rattle.std.specs.List.{insert}
+use Rattle.row.proofs.Lists.{put_back, set_mid, inserted_mid}
 
 -- the item at place o of a ring of k cells stands in its cell `at`
 abbrev pub InRing : ℕ → ℕ → ℕ → ℕ → Type 0
@@ -79,101 +79,115 @@ module _ {X : Type 0} where
       subst P (sym n) (rw (a, take_all w z le, drop_all w z le))
 
   -- what stands before a block, and behind it
-  abbrev pub front : ℕ → List ℕ → ℕ → List X → List X
-  front w hs b cells = rings w (take b hs) (take (b * w) cells)
+  abbrev pub front : ℕ → List ℕ → ℕ → ℕ → List X → List X
+  front w hs b s cells = rings w (take b hs) (take s cells)
 
-  abbrev pub back : ℕ → List ℕ → ℕ → ℕ → List X → List X
-  back w hs b k cells = rings w (drop (suc b) hs) (drop k (drop (b * w) cells))
+  abbrev pub back : ℕ → List ℕ → ℕ → ℕ → ℕ → List X → List X
+  back w hs b s k cells = rings w (drop (suc b) hs) (drop k (drop s cells))
+
+  -- all rings up to the last head, and the cells past it
+  pub rings-past : (w : ℕ) (hs : List ℕ) (c : List X) (m : ℕ) → m ≡ min (length c) (length hs * w) → rings w hs c ≡ rings w hs (take m c) ++ drop m c
+  rings-past w hs c m e =
+      elim (cases_lt (length hs * w) (length c)) [
+        | inl l ↦ (let lt : length (take m c) ≡ length hs * w = length-take-le m c (omega arith) ∙ omega arith in
+            let r = rings-append w hs [] (take m c) (drop m c) lt in
+            rw (append-nil hs, take-append-drop m c) at r)
+        | inr l ↦ rw (take_all m c (omega arith), drop_all m c (omega arith)) (sym (append-nil (rings w hs c)))
+      ]
 
   -- a block of k cells, and what stands around it
-  pub record Block (w : ℕ) (hs : List ℕ) (cells : List X) (b k : ℕ) : Type 0 where
+  pub record Block (w : ℕ) (hs : List ℕ) (cells : List X) (b s k : ℕ) : Type 0 where
+    pub start : s ≡ b * w
     pub named : b < length hs
-    pub within : b * w + k ≤ length cells
+    pub head : get_or hs b 0 < k
+    pub within : s + k ≤ length cells
     pub small : k ≤ w
-    pub whole : (k ≡ w) ⊎ (length (drop k (drop (b * w) cells)) ≡ 0)
+    pub whole : (k ≡ w) ⊎ (length (drop k (drop s cells)) ≡ 0)
 
-  pub block_of : (w : ℕ) (hs : List ℕ) (c : List X) (b e : ℕ) → Headed w hs (length c) → b * w < length c → e ≡ min (b * w + w) (length c) → Block w hs c b (e - b * w)
-  block_of w hs c b e S lt m =
-      let n = S b lt in
-      let wh : (e - b * w ≡ w) ⊎ (length (drop (e - b * w) (drop (b * w) c)) ≡ 0) =
-      elim (cases_lt (length c) (b * w + w)) [ inl l ↦ inr (simp length-drop (omega arith)) | inr l ↦ inl (omega arith) ] in
-      record { named = n; within = omega arith; small = omega arith; whole = wh }
+  module _ {w : ℕ} {hs : List ℕ} {c : List X} {b s k : ℕ} (B : Block w hs c b s k) where
+    pub length_block : length (take k (drop s c)) ≡ k
+    length_block = length-take-le k (drop s c) (rw length-drop (omega (arith, B.within)))
 
-  pub length_front : (w : ℕ) (hs : List ℕ) (b k : ℕ) (cells : List X) → Block w hs cells b k → length (front w hs b cells) ≡ b * w
-  length_front w hs b k cells B =
-      length-rings w (take b hs) (take (b * w) cells) ∙ length-take-le (b * w) cells (omega (arith, B.within))
+    pub length_front : length (front w hs b s c) ≡ s
+    length_front = length-rings w (take b hs) (take s c) ∙ length-take-le s c (omega (arith, B.within))
 
-  pub rings-at : (w : ℕ) (hs : List ℕ) (b k : ℕ) (cells : List X) → Block w hs cells b k → (h : ℕ) (z : List X) → length z ≡ k
-      → rings w (set hs b h) (put_mid (b * w) k cells z) ≡ front w hs b cells ++ (ring h z ++ back w hs b k cells)
-  rings-at w hs b k cells B h z lz =
-      let n : b < length hs = B.named in
-      let l : length (take b hs) ≡ b = length-take-le b hs (omega arith) in
-      let m : length (take (b * w) cells) ≡ length (take b hs) * w = rw l (length-take-le (b * w) cells (omega (arith, B.within))) in
-      let s = set_split hs b h n in
-      let a = rings-append w (take b hs) (h ∷ drop (suc b) hs) (take (b * w) cells) (z ++ drop k (drop (b * w) cells)) m in
-      let wh : (length z ≡ w) ⊎ (length (drop k (drop (b * w) cells)) ≡ 0) = rw lz B.whole in
-      let f = rings-first w h (drop (suc b) hs) z (drop k (drop (b * w) cells)) (omega (arith, B.small)) wh in
-      rw s (a ∙ ap (λ (t : List X). front w hs b cells ++ t) f)
+    pub rings-at : (h : ℕ) (z : List X) → length z ≡ k → rings w (set hs b h) (put_mid s k c z) ≡ front w hs b s c ++ (ring h z ++ back w hs b s k c)
+    rings-at h z lz =
+        let n : b < length hs = B.named in
+        let l : length (take b hs) ≡ b = length-take-le b hs (omega arith) in
+        let m : length (take s c) ≡ length (take b hs) * w = rw l (length-take-le s c (omega (arith, B.within)) ∙ B.start) in
+        let p = set_split hs b h n in
+        let a = rings-append w (take b hs) (h ∷ drop (suc b) hs) (take s c) (z ++ drop k (drop s c)) m in
+        let wh : (length z ≡ w) ⊎ (length (drop k (drop s c)) ≡ 0) = rw lz B.whole in
+        let f = rings-first w h (drop (suc b) hs) z (drop k (drop s c)) (omega (arith, B.small)) wh in
+        rw p (a ∙ ap (λ (t : List X). front w hs b s c ++ t) f)
 
-  -- the cells as they stand
-  pub rings-here : (w : ℕ) (hs : List ℕ) (b k : ℕ) (cells : List X) → Block w hs cells b k
-      → rings w hs cells ≡ front w hs b cells ++ (ring (get_or hs b 0) (take k (drop (b * w) cells)) ++ back w hs b k cells)
-  rings-here w hs b k cells B =
-      let z = take k (drop (b * w) cells) in
-      let lz : length z ≡ k = length-take-le k (drop (b * w) cells) (rw length-drop (omega (arith, B.within))) in
-      let e : put_mid (b * w) k cells z ≡ cells = put_back cells (b * w) k in
-      let g : set hs b (get_or hs b 0) ≡ hs = set-get_or hs b 0 in
-      let r = rings-at w hs b k cells B (get_or hs b 0) z lz in
-      ap (λ (t : List X). rings w hs t) (sym e) ∙ ap (λ (t : List ℕ). rings w t (put_mid (b * w) k cells z)) (sym g) ∙ r
+    -- the cells as they stand
+    pub rings-here : rings w hs c ≡ front w hs b s c ++ (ring (get_or hs b 0) (take k (drop s c)) ++ back w hs b s k c)
+    rings-here =
+        let z = take k (drop s c) in
+        let e : put_mid s k c z ≡ c = put_back c s k in
+        let g : set hs b (get_or hs b 0) ≡ hs = set-get_or hs b 0 in
+        ap (λ (t : List X). rings w hs t) (sym e) ∙ ap (λ (t : List ℕ). rings w t (put_mid s k c z)) (sym g) ∙ rings-at (get_or hs b 0) z length_block
 
-  -- the items of a block
-  pub of_block : (w : ℕ) (hs : List ℕ) (c : List X) (b e : ℕ) → Headed w hs (length c) → b * w < length c → e ≡ min (b * w + w) (length c)
-      → (o : ℕ) (d : X) → o < e - b * w → get_or (rings w hs c) (b * w + o) d ≡ get_or (ring (get_or hs b 0) (take (e - b * w) (drop (b * w) c))) o d
-  of_block w hs c b e S lt m o d ol =
-      let h = get_or hs b 0 in
-      let k = e - b * w in
-      let z = take k (drop (b * w) c) in
-      let B = block_of w hs c b e S lt m in
-      let lz : length z ≡ k = length_block c (b * w) e (omega arith) (omega arith) in
-      let lr : length (ring h z) ≡ length z = length-ring h z in
-      let po : b * w + o - b * w ≡ o = omega arith in
-      ap (λ (t : List X). get_or t (b * w + o) d) (rings-here w hs b k c B)
-      ∙ get_or-append_right (front w hs b c) (ring h z ++ back w hs b k c) (b * w) (b * w + o) d (length_front w hs b k c B) (omega arith)
-      ∙ ap (λ (n : ℕ). get_or (ring h z ++ back w hs b k c) n d) po
-      ∙ get_or_append_left (ring h z) (back w hs b k c) d o (omega arith)
+    -- the items of a block
+    pub of_block : (o : ℕ) (d : X) → o < k → get_or (rings w hs c) (s + o) d ≡ get_or (ring (get_or hs b 0) (take k (drop s c))) o d
+    of_block o d ol =
+        let h = get_or hs b 0 in
+        let z = take k (drop s c) in
+        let lr : length (ring h z) ≡ k = length-ring h z ∙ length_block in
+        let po : s + o - s ≡ o = omega arith in
+        ap (λ (t : List X). get_or t (s + o) d) rings-here
+        ∙ get_or-append_right (front w hs b s c) (ring h z ++ back w hs b s k c) s (s + o) d length_front (omega arith)
+        ∙ ap (λ (n : ℕ). get_or (ring h z ++ back w hs b s k c) n d) po
+        ∙ get_or_append_left (ring h z) (back w hs b s k c) d o (omega arith)
 
-  -- the cell where an item stands
-  pub read : (w : ℕ) (hs : List ℕ) (c : List X) (b e : ℕ) → Headed w hs (length c) → b * w < length c → e ≡ min (b * w + w) (length c)
-      → (o at p : ℕ) (d : X) → o < e - b * w → InRing (head_in hs b (e - b * w)) o (e - b * w) at → p ≡ b * w + o → get_or (rings w hs c) p d ≡ get_or c (b * w + at) d
-  read w hs c b e S lt m o at p d ol way q =
-      let k = e - b * w in
-      let h = head_in hs b k in
-      let hb = head_below hs b k (omega arith) in
-      let lz = length_block c (b * w) e (omega arith) (omega arith) in
-      ap (λ (n : ℕ). get_or (rings w hs c) n d) q
-      ∙ of_block w hs c b e S lt m o d ol
-      ∙ ap (λ (t : List X). get_or t o d) (sym (ring_head hs b k (take k (drop (b * w) c)) lz))
-      ∙ ring_read h o at k (take k (drop (b * w) c)) d (omega arith) ol lz way
-      ∙ get_or-take k (drop (b * w) c) at d (in_ring_below h o k at (omega arith) ol way) ∙ get_or-drop (b * w) c at d
+    -- the cell where an item stands
+    pub read : (o at p : ℕ) (d : X) → o < k → InRing (get_or hs b 0) o k at → p ≡ s + o → get_or (rings w hs c) p d ≡ get_or c (s + at) d
+    read o at p d ol way q =
+        let h = get_or hs b 0 in
+        let hl : h ≤ k = omega (arith, B.head) in
+        ap (λ (n : ℕ). get_or (rings w hs c) n d) q
+        ∙ of_block o d ol
+        ∙ ring_read h o at k (take k (drop s c)) d hl ol length_block way
+        ∙ get_or-take k (drop s c) at d (in_ring_below h o k at hl ol way) ∙ get_or-drop s c at d
 
-  -- a write to the cell where an item stands changes that item alone
-  pub written : (w : ℕ) (hs : List ℕ) (c : List X) (b e : ℕ) → Headed w hs (length c) → b * w < length c → e ≡ min (b * w + w) (length c)
-      → (o at p : ℕ) (x : X) → o < e - b * w → InRing (head_in hs b (e - b * w)) o (e - b * w) at → p ≡ b * w + o → rings w hs (set c (b * w + at) x) ≡ set (rings w hs c) p x
-  written w hs c b e S lt m o at p x ol way q =
-      let a = b * w in
-      let k = e - a in
-      let h = head_in hs b k in
-      let hb = head_below hs b k (omega arith) in
-      let z = take k (drop a c) in
-      let B = block_of w hs c b e S lt m in
-      let lz : length z ≡ k = length_block c a e (omega arith) (omega arith) in
-      let lr : length (ring h z) ≡ length z = length-ring h z in
-      let al : at < k = in_ring_below h o k at (omega arith) ol way in
-      let la : length (take a c) ≡ a = length-take-le a c (omega arith) in
-      let parted : set c (a + at) x ≡ put_mid a k c (set z at x) = ap (λ (t : List X). set t (a + at) x) (sym (put_back c a k)) ∙ set_mid (take a c) z (drop k (drop a c)) a at (a + at) x la (omega arith) refl in
-      ap (λ (t : List X). rings w hs t) parted
-      ∙ ap (λ (t : List ℕ). rings w t (put_mid a k c (set z at x))) (sym (set-get_or hs b 0)) ∙ rings-at w hs b k c B (get_or hs b 0) (set z at x) (length-set z at x ∙ lz)
-      ∙ ap (λ (t : List X). front w hs b c ++ (t ++ back w hs b k c)) (sym (ring_head hs b k (set z at x) (length-set z at x ∙ lz)) ∙ ring_written h o at k z x (omega arith) ol lz way)
-      ∙ sym (set_mid (front w hs b c) (ring h z) (back w hs b k c) a o p x (length_front w hs b k c B) (omega arith) q)
-      ∙ ap (λ (t : List X). set (front w hs b c ++ (t ++ back w hs b k c)) p x) (ring_head hs b k z lz)
-      ∙ ap (λ (t : List X). set t p x) (sym (rings-here w hs b k c B))
+    -- a write to the cell where an item stands changes that item alone
+    pub written : (o at p : ℕ) (x : X) → o < k → InRing (get_or hs b 0) o k at → p ≡ s + o → rings w hs (set c (s + at) x) ≡ set (rings w hs c) p x
+    written o at p x ol way q =
+        let h = get_or hs b 0 in
+        let hl : h ≤ k = omega (arith, B.head) in
+        let z = take k (drop s c) in
+        let lz : length z ≡ k = length_block in
+        let lr : length (ring h z) ≡ k = length-ring h z ∙ lz in
+        let al : at < k = in_ring_below h o k at hl ol way in
+        let la : length (take s c) ≡ s = length-take-le s c (omega (arith, B.within)) in
+        let parted : set c (s + at) x ≡ put_mid s k c (set z at x) = ap (λ (t : List X). set t (s + at) x) (sym (put_back c s k)) ∙ set_mid (take s c) z (drop k (drop s c)) s at (s + at) x la (omega arith) refl in
+        ap (λ (t : List X). rings w hs t) parted
+        ∙ ap (λ (t : List ℕ). rings w t (put_mid s k c (set z at x))) (sym (set-get_or hs b 0)) ∙ rings-at h (set z at x) (length-set z at x ∙ lz)
+        ∙ ap (λ (t : List X). front w hs b s c ++ (t ++ back w hs b s k c)) (ring_written h o at k z x hl ol lz way)
+        ∙ sym (set_mid (front w hs b s c) (ring h z) (back w hs b s k c) s o p x length_front (omega arith) q)
+        ∙ ap (λ (t : List X). set t p x) (sym rings-here)
+
+    -- a block takes x in at one place, and lets y out at another: its head is h then
+    pub passed : (h to to' p p' : ℕ) (z : List X) (x y : X) → length z ≡ k → to ≤ k → to' ≤ k → p ≡ s + to → p' ≡ s + to'
+        → insert (ring (get_or hs b 0) (take k (drop s c))) to x ≡ insert (ring h z) to' y
+        → insert (rings w hs c) p x ≡ insert (rings w (set hs b h) (put_mid s k c z)) p' y
+    passed h to to' p p' z x y lz le le' q q' e =
+        let r = ring (get_or hs b 0) (take k (drop s c)) in
+        let u = front w hs b s c in
+        let v = back w hs b s k c in
+        let l0 : to ≤ length r = omega (arith, length-ring (get_or hs b 0) (take k (drop s c)), length_block) in
+        let l1 : to' ≤ length (ring h z) = rw length-ring (omega arith) in
+        ap (λ (n : ℕ). insert (rings w hs c) n x) q
+        ∙ ap (λ (t : List X). insert t (s + to) x) rings-here ∙ inserted_mid u r v s to x length_front l0
+        ∙ ap (λ (t : List X). u ++ (t ++ v)) e
+        ∙ sym (inserted_mid u (ring h z) v s to' y length_front l1) ∙ ap (λ (t : List X). insert t (s + to') y) (sym (rings-at h z lz))
+        ∙ ap (λ (n : ℕ). insert (rings w (set hs b h) (put_mid s k c z)) n y) (sym q')
+
+    -- the same where the head stays
+    pub passed_on : (to to' p p' : ℕ) (z : List X) (x y : X) → length z ≡ k → to ≤ k → to' ≤ k → p ≡ s + to → p' ≡ s + to'
+        → insert (ring (get_or hs b 0) (take k (drop s c))) to x ≡ insert (ring (get_or hs b 0) z) to' y
+        → insert (rings w hs c) p x ≡ insert (rings w hs (put_mid s k c z)) p' y
+    passed_on to to' p p' z x y lz le le' q q' e =
+        passed (get_or hs b 0) to to' p p' z x y lz le le' q q' e ∙ ap (λ (t : List ℕ). insert (rings w t (put_mid s k c z)) p' y) (set-get_or hs b 0)

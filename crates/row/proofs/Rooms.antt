@@ -1,86 +1,79 @@
 -- The cells up to the room, those past it, and what a row holds.
-use Rattle.std.proofs.Common.{◌≡◌, ℕ, ◌-◌, ◌<◌, ◌≤◌, min, List, [], ◌++◌, length, get_or, take, drop, Some, sym, ap, ◌∙◌, arith}
+use Rattle.std.proofs.Common.{◌≡◌, ℕ, ◌+◌, ◌-◌, ◌*◌, ◌<◌, ◌≤◌, min, List, ◌++◌, length, get_or, take, drop, Some, sym, refl, ap, ◌∙◌, inl, inr, arith}
 use Rattle.std.specs.List.{slice_get}
+use Rattle.std.proofs.lemmas.Bool.{cases_lt}
 use Rattle.std.proofs.lemmas.Option.{slice_get-get_or}
-use Rattle.std.proofs.lemmas.List.{length-take-le, length-append, length-drop, take_at, drop_at}
-use Rattle.row.specs.Rings.{rings, first_items, room_of, Headed}
-use Rattle.row.specs.Row.{items, room}
+use Rattle.std.proofs.lemmas.List.{length-take-le, length-drop, take-append-le, get_or-take}
+use Rattle.row.specs.Rings.{rings, room_of}
+use Rattle.row.specs.Row.{items, room, outside, order, block_end, Kept}
+use Rattle.std.specs.Borrow.{GName}
+use borrow.Rule.Slice.PartMut.{put_mid}
+use Rattle.std.proofs.lemmas.Slice.{drop-put_mid}
+use Rattle.row.proofs.Lists.{length_put_mid}
 use Rattle.row.specs.declared.row.Row.{Row}
-use Rattle.row.proofs.Heads.{headed_by}
-use Rattle.row.proofs.Rings.{length-rings}
+use Rattle.row.proofs.Rings.{length-rings, rings-past, Block}
 
 module _ {X : Type 0} where
-  -- the cells up to the room, as `&cells[0..r]` gives them
-  pub front_is : (cs : List X) (r : ℕ) → r ≡ room_of cs → take (r - 0) cs ≡ take (room_of cs) cs
-  front_is cs r e = let z : r - 0 ≡ room_of cs = omega arith in ap (λ (v : ℕ). take v cs) z
-
-  pub length_front_cells : (cs : List X) (r : ℕ) → r ≡ room_of cs → length (take (r - 0) cs) ≡ room_of cs
-  length_front_cells cs r e = ap length (front_is cs r e) ∙ length-take-le (room_of cs) cs (omega arith)
-
-  -- 128 heads are enough for any room
-  pub front_headed : (hs : List ℕ) (cs : List X) (r : ℕ) → r ≡ room_of cs → length hs ≡ 128 → Headed 256 hs (length (take (r - 0) cs))
-  front_headed hs cs r e n = headed_by 256 hs (length (take (r - 0) cs)) (omega (arith, length_front_cells cs r e))
-
-  -- a length of 0 leaves no items
-  pub none_first : (hs : List ℕ) (cs : List X) (m : ℕ) → first_items 256 hs cs (min 0 m) ≡ []
-  none_first hs cs m = let z : min 0 m ≡ 0 = omega arith in ap (λ (n : ℕ). first_items 256 hs cs n) z
-
-  -- other cells in the place of those up to the room
-  pub record Replaced (cs front cs' : List X) : Type 0 where
-    pub same-room : room_of cs' ≡ room_of cs
-    pub inside : take (room_of cs') cs' ≡ front
-    pub past : drop (room_of cs') cs' ≡ drop (room_of cs) cs
-
-  pub replaced : (cs front : List X) (r : ℕ) → r ≡ room_of cs → length front ≡ length (take (r - 0) cs) → Replaced cs front (front ++ drop (r - 0) cs)
-  replaced cs front r e l =
-      let z : r - 0 ≡ room_of cs = omega arith in
-      let lf : length front ≡ room_of cs = l ∙ length_front_cells cs r e in
-      let cs' = front ++ drop (r - 0) cs in
-      let le : length cs' ≡ length cs = length-append front (drop (r - 0) cs) ∙ (let d = length-drop (r - 0) cs in omega arith) in
-      let same : room_of cs' ≡ room_of cs = omega arith in
-      let lr : length front ≡ room_of cs' = lf ∙ sym same in
-      record {
-        same-room = same;
-        inside = take_at front (drop (r - 0) cs) (room_of cs') lr;
-        past = drop_at front (drop (r - 0) cs) (room_of cs') lr ∙ ap (λ (v : ℕ). drop v cs) z;
-      }
-
-  -- what a change of the cells up to the room, and of the length to n', does to the items
-  pub changed : (hs hs' : List ℕ) (cs front : List X) (r n n' : ℕ) (F : List X → List X) → r ≡ room_of cs → length front ≡ length (take (r - 0) cs) → n ≡ min n' (room_of cs)
-      → (m : ℕ) → first_items 256 hs' front n ≡ F (first_items 256 hs (take (r - 0) cs) m)
-      → first_items 256 hs' (take (room_of (front ++ drop (r - 0) cs)) (front ++ drop (r - 0) cs)) (min n' (room_of (front ++ drop (r - 0) cs))) ≡ F (first_items 256 hs (take (room_of cs) cs) m)
-  changed hs hs' cs front r n n' F e l q m f =
-      let R = replaced cs front r e l in
-      let k : min n' (room_of (front ++ drop (r - 0) cs)) ≡ n = ap (λ (v : ℕ). min n' v) R.same-room ∙ sym q in
-      ap (λ (v : ℕ). first_items 256 hs' (take (room_of (front ++ drop (r - 0) cs)) (front ++ drop (r - 0) cs)) v) k
-      ∙ ap (λ (t : List X). first_items 256 hs' t n) R.inside ∙ f ∙ ap (λ (t : List X). F (first_items 256 hs t m)) (front_is cs r e)
-
-  pub length-items : (r : Row X) → length (items r) ≡ min r.len (room r)
-  unfolding items room
-  length-items r =
-      let cs = r.cells.now in
-      let n = min r.len (room_of cs) in
-      let f : length (take (room_of cs) cs) ≡ room_of cs = length-take-le (room_of cs) cs (omega arith) in
-      let l = length-rings 256 r.heads (take (room_of cs) cs) in
-      length-take-le n (rings 256 r.heads (take (room_of cs) cs)) (omega arith)
-
   -- a row holds no more items than its room, and no room is larger than 32,768
+  pub length-items : (r : Row X) → length (items r) ≡ r.len
+  unfolding items
+  length-items r =
+      let f : length (take (room_of r.cells.now) r.cells.now) ≡ room_of r.cells.now = length-take-le (room_of r.cells.now) r.cells.now (omega arith) in
+      let l = length-rings 256 r.heads (take (room_of r.cells.now) r.cells.now) in
+      length-take-le (min r.len (room_of r.cells.now)) (rings 256 r.heads (take (room_of r.cells.now) r.cells.now)) (omega arith) ∙ omega (arith, r.fits)
+
   pub items_fit : (r : Row X) → length (items r) ≤ room r
-  items_fit r = omega (arith, length-items r)
+  unfolding room
+  items_fit r = omega (arith, length-items r, r.fits)
 
   pub room_small : (r : Row X) → room r ≤ 32768
   unfolding room
   room_small r = omega arith
 
-  -- the items, read from the cells up to the room
-  pub items-here : (r : Row X) (m n : ℕ) → m ≡ room r → n ≡ length (items r) → first_items 256 r.heads (take (m - 0) r.cells.now) n ≡ items r
-  unfolding items room
-  items-here r m n e l =
-      let k : n ≡ min r.len (room_of r.cells.now) = l ∙ length-items r in
-      ap (λ (t : List X). first_items 256 r.heads t n) (front_is r.cells.now m e) ∙ ap (λ (v : ℕ). first_items 256 r.heads (take (room_of r.cells.now) r.cells.now) v) k
+  pub length-order : (r : Row X) → length (order r) ≡ length r.cells.now
+  length-order r = length-rings 256 r.heads r.cells.now
 
-  -- an item, read from the cells up to the room
-  pub an_item : (r : Row X) (m n i : ℕ) (x : X) → m ≡ room r → n ≡ length (items r) → i < n → ((d : X) → x ≡ get_or (first_items 256 r.heads (take (m - 0) r.cells.now) n) i d) → slice_get (items r) i ≡ Some x
-  an_item r m n i x e l lt f =
-      let g : x ≡ get_or (items r) i x = f x ∙ ap (λ (t : List X). get_or t i x) (items-here r m n e l) in
-      slice_get-get_or (items r) i x (omega arith) ∙ ap (λ (v : X). Some v) (sym g)
+  -- the items are the first in the order of all cells
+  pub items-order : (r : Row X) (n : ℕ) → length r.heads ≡ 128 → r.len ≡ n → items r ≡ take n (order r)
+  unfolding items
+  items-order r n h e =
+      let c = r.cells.now in
+      let m = room_of c in
+      let f : length (take m c) ≡ m = length-take-le m c (omega arith) in
+      let l = length-rings 256 r.heads (take m c) in
+      let k : min r.len m ≡ n = omega (arith, r.fits) in
+      ap (λ (v : ℕ). take v (rings 256 r.heads (take m c))) k
+      ∙ sym (ap (λ (t : List X). take n t) (rings-past 256 r.heads c m (omega arith)) ∙ take-append-le n (rings 256 r.heads (take m c)) (drop m c) (omega (arith, r.fits)))
+
+  -- an item, read from the order of all cells
+  pub an_item : (r : Row X) → length r.heads ≡ 128 → (i : ℕ) (d : X) → i < r.len → slice_get (items r) i ≡ Some (get_or (order r) i d)
+  an_item r n i d lt =
+      let e : get_or (items r) i d ≡ get_or (order r) i d = ap (λ (t : List X). get_or t i d) (items-order r r.len n refl) ∙ get_or-take r.len (order r) i d lt in
+      slice_get-get_or (items r) i d (omega (arith, length-items r)) ∙ ap (λ (v : X). Some v) e
+
+  -- a block of a row
+  pub block_in : (r : Row X) (b s e : ℕ) → b * 256 < room_of r.cells.now → s ≡ b * 256 → e ≡ block_end r b → Block 256 r.heads r.cells.now b s (e - s)
+  block_in r b s e lt q m =
+      let h = r.headed b lt in
+      record {
+        start = q;
+        named = h.0;
+        head = omega (arith, h.1);
+        within = omega arith;
+        small = omega arith;
+        whole = elim (cases_lt (room_of r.cells.now) (b * 256 + 256)) [ inl l ↦ inr (simp length-drop (omega arith)) | inr l ↦ inl (omega arith) ];
+      }
+
+  -- other cells in the place of a part of those up to the room
+  pub kept_by : (old new : Row X) → new.len ≡ old.len → new.cells.ghost_name ≡ old.cells.ghost_name → (a k : ℕ) (z : List X) → new.cells.now ≡ put_mid a k old.cells.now z → length z ≡ k → a + k ≤ room_of old.cells.now → Kept old new
+  unfolding outside
+  kept_by old new n g a k z e lz le =
+      let c = old.cells.now in
+      let m = room_of c in
+      let l : length new.cells.now ≡ length c = rw e (length_put_mid a k c z lz (omega arith)) in
+      let same : room_of new.cells.now ≡ m = omega arith in
+      let d : drop (room_of new.cells.now) new.cells.now ≡ drop m c = rw (same, e) (drop-put_mid a k c z m le (omega arith) lz) in
+      record { len = n; cells = l; outside = ap (λ (v : GName). (v, drop (room_of new.cells.now) new.cells.now)) g ∙ ap (λ (t : List X). (old.cells.ghost_name, t)) d }
+
+  pub kept_again : (r s t : Row X) → Kept r s → Kept s t → Kept r t
+  kept_again r s t a b = record { len = b.len ∙ a.len; cells = b.cells ∙ a.cells; outside = b.outside ∙ a.outside }

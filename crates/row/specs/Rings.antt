@@ -1,5 +1,5 @@
 -- The order of the items in cells that are cut into blocks of w cells, each block a ring that begins at its head.
-use Rattle.std.specs.Prelude.{ℕ, ◌*◌, ◌<◌, min, cond, List, [], ◌∷◌, ◌++◌, length, take, drop, nat_lt, slice_index}
+use Rattle.std.specs.Prelude.{ℕ, ◌+◌, ◌*◌, ◌<◌, min, List, [], ◌∷◌, ◌++◌, length, take, drop, slice_index}
 
 -- the cells of one block, from its head on and round its end
 abbrev pub ring : {X : Type 0} → ℕ → List X → List X
@@ -14,13 +14,9 @@ rings w (head ∷ heads) cells = ring head (take w cells) ++ rings w heads (drop
 abbrev pub first_items : {X : Type 0} → ℕ → List ℕ → List X → ℕ → List X
 first_items w heads cells n = take n (rings w heads cells)
 
--- each block that a room has cells of has a head
-abbrev pub Headed : ℕ → List ℕ → ℕ → Type 0
-Headed w heads room = (b : ℕ) → b * w < room → b < length heads
-
--- the head of a block of k cells; one that lies past them stands for the first cell, as in `ring`
-abbrev pub head_in : List ℕ → ℕ → ℕ → ℕ
-head_in heads b k = cond (nat_lt (slice_index heads b) k) (slice_index heads b) 0
+-- each block that a room has cells of has a head, and the head lies within the block
+abbrev pub HeadsWithin : ℕ → List ℕ → ℕ → Type 0
+HeadsWithin w heads room = (b : ℕ) → b * w < room → (b < length heads) × (slice_index heads b < w) × (b * w + slice_index heads b < room)
 
 -- how many cells are in use: all of them, or 32,768 if there are more
 abbrev pub room_of : {X : Type 0} → List X → ℕ

@@ -1,7 +1,7 @@
 -- What a row holds.
-use Rattle.std.specs.Prelude.{ℕ, min, List, take, drop}
+use Rattle.std.specs.Prelude.{◌≡◌, ℕ, ◌+◌, ◌*◌, min, List, length, take, drop}
 use Rattle.std.specs.Borrow.{GName}
-use Rattle.row.specs.Rings.{first_items, room_of}
+use Rattle.row.specs.Rings.{rings, first_items, room_of}
 use Rattle.row.specs.declared.row.Row.{Row}
 
 -- the most items that it can hold
@@ -15,3 +15,17 @@ items r = first_items 256 r.heads (take (room_of r.cells.now) r.cells.now) (min 
 -- which cells were lent, and what those past the room hold
 unfoldable pub outside : {T : Type 0} → Row T → GName × List T
 outside r = (r.cells.ghost_name, drop (room_of r.cells.now) r.cells.now)
+
+-- all cells in the order of their items
+abbrev pub order : {T : Type 0} → Row T → List T
+order r = rings 256 r.heads r.cells.now
+
+-- where block b ends
+abbrev pub block_end : {T : Type 0} → Row T → ℕ → ℕ
+block_end r b = min (b * 256 + 256) (room_of r.cells.now)
+
+-- what a change of items within a block keeps
+pub record Kept {T : Type 0} (old new : Row T) : Type 0 where
+  pub len : new.len ≡ old.len
+  pub cells : length new.cells.now ≡ length old.cells.now
+  pub outside : outside new ≡ outside old

@@ -2,9 +2,7 @@
 // full but the last one used, so that an insert shifts items within one block and moves one item for each later block.
 #![tactic(auto)]
 
-mod blocks;
 mod ring;
 mod row;
-mod search;
 
 pub use row::Row;

@@ -1,27 +1,52 @@
-use Rattle.std.proofs.Common.{◌≡◌, List, length, count_by, subst, arith}
-use Rattle.row.specs.Partition.{Partitioned}
-use Rattle.row.specs.Row.{room}
-use Rattle.row.proofs.Rooms.{front_headed, length_front_cells, items-here}
+use Rattle.std.proofs.Common.{◌≡◌, ℕ, ◌+◌, ◌-◌, ◌*◌, ◌<◌, ◌≤◌, ◌⊎◌, List, length, get_or, take, drop, [], count_by, sym, refl, subst, inl, inr, arith}
+use Rattle.std.proofs.lemmas.Bool.{cases_lt}
+use Rattle.std.proofs.lemmas.List.{nil_from_length}
+use Rattle.row.specs.Partition.{Partitioned, Window}
+use Rattle.row.specs.Rings.{ring}
+use Rattle.row.specs.Row.{items, room, order}
+use Rattle.row.proofs.Rings.{length_block, of_block}
+use Rattle.row.proofs.Rooms.{block_in, length-items, length-order, items-order}
+use Rattle.row.proofs.Windows.{partitioned_front, widened, narrowed, counted}
 use Rattle.row.proofs.row.Row.partition_point.Goals as goal
 
-pub slice_bounds-partition_point-end : goal.slice_bounds-partition_point-end
-unfolding room
-slice_bounds-partition_point-end g c = omega arith
+pub returns-then-self-eq0 : goal.returns-then-self-eq0
+returns-then-self-eq0 g c =
+    let n : items c.args.self.now ≡ [] = nil_from_length (items c.args.self.now) (omega (arith, length-items c.args.self.now)) in
+    record { within = omega arith; point = λ p k part. rw n }
 
-pub partition_point-requires : goal.partition_point-requires
+pub ring_partition_point-requires : goal.ring_partition_point-requires
 unfolding room
-partition_point-requires g c =
+ring_partition_point-requires g c =
     let r = c.args.self.now in
-    let h : length r.heads ≡ 128 = omega arith in
-    record {
-      callable = c.requires;
-      room = omega (arith, length_front_cells r.cells.now c.capacity-room.result c.capacity-room.ensures);
-      heads = front_headed r.heads r.cells.now c.capacity-room.result c.capacity-room.ensures h;
-    }
+    let (s, e) = c.block-start.result in
+    let B = block_in r c.find_block-b.result s e (omega (arith, r.fits)) c.block-start.ensures.start c.block-start.ensures.end in
+    let l = length_block B in
+    record { callable = c.requires; some = omega (arith, r.fits); room = omega (arith, r.fits); head = omega (arith, B.head) }
 
 pub returns : goal.returns
+unfolding room
 returns g c =
+    let r = c.args.self.now in
+    let b = c.find_block-b.result in
+    let (s, e) = c.block-start.result in
+    let B = block_in r b s e (omega (arith, r.fits)) c.block-start.ensures.start c.block-start.ensures.end in
+    let n = r.len in
+    let m = c.min.result - s in
+    let xs = order r in
+    let ys = ring (get_or r.heads b 0) (take (e - s) (drop s r.cells.now)) in
+    let t = c.ring_partition_point.result in
+    let le : s + t ≤ n = omega (arith, c.ring_partition_point.ensures.within) in
+    let fit : n ≤ length xs = omega (arith, r.fits, length-order r) in
+    let E : (o : ℕ) (d : _) → o < m → get_or xs (s + o) d ≡ get_or ys o d = λ o d ol. of_block B o d (omega arith) in
+    let far : (n ≤ s + m) ⊎ ((b + 1) * 256 ≤ s + m) =
+    elim (cases_lt c.min.result ((b + 1) * 256)) [ inl l ↦ inl (omega (arith, r.fits)) | inr l ↦ inr (omega arith) ] in
+    let h : length r.heads ≡ 128 = omega arith in
+    let same = items-order r n h refl in
     record {
-      within = omega (arith, c.partition_point.ensures.within);
-      point = λ p k. subst (λ (t : List _). Partitioned p t → c.partition_point.result ≡ count_by p t) (items-here c.args.self.now c.capacity-room.result c.len-len.result c.capacity-room.ensures c.len-len.ensures.len) (c.partition_point.ensures.point p k);
+      within = omega (arith, length-items r);
+      point = λ p k part.
+          (let P = partitioned_front p xs n fit (subst (λ (l : List _). Partitioned p l) same part) in
+          let V = c.ring_partition_point.ensures.window p k (narrowed p xs ys n m s E (omega arith) P) in
+          let W : Window p xs n s ((b + 1) * 256) = rw c.block-start.ensures.start (c.find_block-b.ensures.window p k P) in
+          subst (λ (l : List _). s + t ≡ count_by p l) (sym same) (counted p xs n (s + t) (widened p xs ys n m s ((b + 1) * 256) t E W V c.ring_partition_point.ensures.within far) le fit));
     }

@@ -1,0 +1,113 @@
+// The partition point of the items: a search by halves with no branch on an item, first among blocks and then in one.
+#![tactic(auto, unfolding(crate::specs::Row::room))]
+
+ghost use Rattle.std.specs.Prelude.{◌≡◌, ℕ, ◌+◌, ◌*◌, ◌^◌, ◌<◌, ◌≤◌, Bool, length, if◌then◌else◌, count_by, slice_index_or};
+ghost use Rattle.std.specs.Fn.{ComputesKey};
+ghost use Rattle.row.specs.Partition.{Partitioned, PartitionedTo, Window};
+ghost use Rattle.row.specs.Rings.{ring};
+
+use super::Row;
+use super::blocks::BLOCK;
+
+impl<T: Copy> Row<'_, T> {
+    ghost use Rattle.row.specs.Row.{items, room, order};
+
+    /// How many items satisfy `pred`, if those that do all stand before those that do not.
+    pub fn partition_point<F: Fn(&T) -> bool>(&self, pred: F) -> usize
+        requires { F.IsAlwaysCallable pred }
+        ensures within { result ≤ length (items self.now) }
+        ensures point { (p : T → Bool) → ComputesKey F.Fn p pred → Partitioned p (items self.now) → result ≡ count_by p (items self.now) }
+    {
+        if self.len == 0 {
+            return 0;
+        }
+        let b = self.find_block(&pred);
+        let (start, end) = self.block(b);
+        let n = self.len.min(end) - start;
+        start + ring_partition_point(&self.cells[start..end], self.heads[b] as usize, n, &pred)
+    }
+
+    // The block in which the items that satisfy `pred` end.
+    fn find_block<F: Fn(&T) -> bool>(&self, pred: &F) -> usize
+        requires callable { F.IsAlwaysCallable pred.now }
+        requires some { 0 < self.now.len }
+        ensures within { result * 256 < self.now.len }
+        ensures window { (p : T → Bool) → ComputesKey F.Fn p pred.now → PartitionedTo p (order self.now) self.now.len → Window p (order self.now) self.now.len (result * 256) ((result + 1) * 256) }
+    {
+        let blocks = (self.len - 1) / BLOCK + 1;
+        let turns = blocks.ilog2();
+        let last = blocks - power(turns);
+        let mut b = if pred(&self.block_first(last)) {
+            last
+        } else {
+            0
+        };
+        for j in (0..turns).rev() {
+            let mid = b + power(j);
+            b += power_if(pred(&self.block_first(mid)), j);
+        }
+        b
+    }
+
+    // The first item of a block.
+    fn block_first(&self, b: usize) -> T
+        requires { b * 256 < room self.now }
+        ensures { (d : T) → result ≡ slice_index_or (order self.now) (b * 256) d }
+    {
+        self.cells[b * BLOCK + self.heads[b] as usize]
+    }
+}
+
+// How many of the first `n` items of a ring satisfy `pred`.
+fn ring_partition_point<T: Copy, F: Fn(&T) -> bool>(
+    block: &[T],
+    head: usize,
+    n: usize,
+    pred: &F,
+) -> usize
+    requires callable { F.IsAlwaysCallable pred.now }
+    requires some { 0 < n }
+    requires room { n ≤ length block.now }
+    requires head { head ≤ length block.now }
+    ensures within { result ≤ n }
+    ensures window { (p : T → Bool) → ComputesKey F.Fn p pred.now → PartitionedTo p (ring head block.now) n → Window p (ring head block.now) n result result }
+{
+    let turns = n.ilog2();
+    let width = power(turns);
+    let mut low = if pred(&ring_item(block, head, width - 1)) {
+        n - width
+    } else {
+        0
+    };
+    for j in (0..turns).rev() {
+        let half = power(j);
+        low += power_if(pred(&ring_item(block, head, low + half - 1)), j);
+    }
+    low + power_if(pred(&ring_item(block, head, low)), 0)
+}
+
+// The item at place `i` of a ring.
+fn ring_item<T: Copy>(block: &[T], head: usize, i: usize) -> T
+    requires place { i < length block.now }
+    requires head { head ≤ length block.now }
+    ensures { (d : T) → result ≡ slice_index_or (ring head block.now) i d }
+{
+    let near = block.len() - head;
+    let at = if i < near { head + i } else { i - near };
+    block[at]
+}
+
+fn power(j: u32) -> usize
+    requires { j < 64 }
+    ensures { result ≡ 2 ^ j }
+{
+    1 << j
+}
+
+// A shift of the answer: an `if` or a product would be compiled to a branch.
+fn power_if(yes: bool, j: u32) -> usize
+    requires { j < 64 }
+    ensures { result ≡ (if yes then 2 ^ j else 0) }
+{
+    usize::from(yes) << j
+}
