@@ -1,6 +1,7 @@
 -- What a call at a rank of a key's sequence does to sorted entries and to what they hold.
-use Rattle.std.proofs.Common.{◌≡◌, ℕ, suc, ◌+◌, ◌<◌, ◌≤◌, Bool, true, false, cond, List, [], ◌∷◌, ◌++◌, length, get_or, take, drop, set, Some, sym, refl, ap, ◌∙◌, subst, ⊎_elim, add-one, arith}
+use Rattle.std.proofs.Common.{not, ◌≡◌, ℕ, suc, ◌+◌, ◌<◌, ◌≤◌, Bool, true, false, cond, List, [], ◌∷◌, ◌++◌, length, get_or, take, drop, set, Some, sym, refl, ap, ◌∙◌, subst, ⊎_elim, add-one, arith}
 use Rattle.std.specs.List.{insert, remove, slice_get}
+use Rattle.std.proofs.lemmas.List.Sums.{count_by-le-length}
 use Rattle.std.proofs.lemmas.List.{take-append-drop, drop_more, set_split}
 use Rattle.std.proofs.lemmas.Bool.{both_ways, cases_lt}
 use Rattle.keys.specs.Order.{StrictOrder}
@@ -12,12 +13,6 @@ use Rattle.ordered.specs.Sorted.{Sorted, smaller, not_greater, held}
 use Rattle.ordered.proofs.Sorted.{bounds, before_place, key_at, behind_place, sorted_put, sorted_set}
 
 module _ {K V : Type 0} {less : K → K → Bool} (o : StrictOrder less) where
-  not_greater_le : (es : List (Cell K V)) (k : K) → not_greater less es k ≤ length es
-  not_greater_le [] k = omega arith
-  not_greater_le (e ∷ es) k =
-      let ih = not_greater_le es k in
-      elim (less k e.key) as (λ b. cond b (not_greater less es k) (1 + not_greater less es k) ≤ length (e ∷ es)) [ true ↦ omega arith | false ↦ omega arith ]
-
   -- the sequence of a key is as long as the stretch of its entries
   pub stretch : (es : List (Cell K V)) (k : K) → smaller less es k + length (sequence less (held less es) k) ≡ not_greater less es k
   stretch es k =
@@ -26,7 +21,7 @@ module _ {K V : Type 0} {less : K → K → Bool} (o : StrictOrder less) where
       omega (arith, e, b)
 
   pub stretch_within : (es : List (Cell K V)) (k : K) → smaller less es k + length (sequence less (held less es) k) ≤ length es
-  stretch_within es k = let s = stretch es k in let n = not_greater_le es k in omega arith
+  stretch_within es k = let s = stretch es k in let n = count_by-le-length (λ (e : Cell K V). not (less k e.key)) es in omega arith
 
 -- a rank of a key's sequence, and its place among sorted entries
 module _ {K V : Type 0} {less : K → K → Bool} (o : StrictOrder less) (es : List (Cell K V)) (k : K) (rank i : ℕ) (s : Sorted less es) (at : i ≡ smaller less es k + rank) where

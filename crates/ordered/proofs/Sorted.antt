@@ -1,46 +1,97 @@
 -- Where the entries of a key stand among sorted entries, and which edits keep them sorted.
-use Rattle.std.proofs.Common.{◌≡◌, ℕ, zero, suc, ◌+◌, ◌<◌, ◌≤◌, Bool, true, false, cond, not, List, [], ◌∷◌, ◌++◌, length, get_or, take, drop, set, count_by, sym, refl, ap, ◌∙◌, subst, ⊎_elim, arith}
-use Rattle.std.proofs.lemmas.List.Sums.{sum_by-cons}
+use Rattle.std.proofs.Common.{◌≡◌, ℕ, zero, suc, ◌+◌, ◌<◌, ◌≤◌, min, Bool, true, false, cond, not, List, [], ◌∷◌, ◌++◌, length, get_or, take, drop, set, count_by, sym, refl, ap, ◌∙◌, subst, ⊎_elim, arith}
+use Rattle.std.proofs.lemmas.List.Sums.{sum_by-cons, count_by-le-length}
 use Rattle.std.proofs.lemmas.Bool.{both_ways, cases_Bool}
 use Rattle.keys.specs.Order.{StrictOrder}
 use Rattle.chains.specs.Entries.{values_under}
 use Rattle.chains.proofs.Orders.{trichotomy}
+use Rattle.row.specs.Partition.{Partitioned}
 use Rattle.ordered.specs.declared.cell.Cell.{Cell}
 use Rattle.ordered.specs.Sorted.{NoneSmaller, Sorted, smaller, not_greater}
+
+-- ---- a list that a test parts in two, and how many of its items pass
+
+module _ {X : Type 0} (p : X → Bool) where
+  tail : (x : X) (xs : List X) → Partitioned p (x ∷ xs) → Partitioned p xs
+  tail x xs P j k d le lt = P (suc j) (suc k) d (omega arith) (omega arith)
+
+  pub counted : (x : X) (xs : List X) → count_by p (x ∷ xs) ≡ cond (p x) 1 0 + count_by p xs
+  counted x xs = sum_by-cons (λ (y : X). cond (p y) 1 0) x xs
+
+  counted_yes : (x : X) (xs : List X) → p x ≡ true → count_by p (x ∷ xs) ≡ 1 + count_by p xs
+  counted_yes x xs t = counted x xs ∙ rw t
+
+  counted_no : (x : X) (xs : List X) → p x ≡ false → count_by p (x ∷ xs) ≡ count_by p xs
+  counted_no x xs f = counted x xs ∙ rw f (omega arith)
+
+  -- behind an item that fails, all fail
+  none_behind : (x : X) (xs : List X) → Partitioned p (x ∷ xs) → p x ≡ false → count_by p xs ≡ 0
+  none_behind x [] P f = refl
+  none_behind x (y ∷ ys) P f =
+      ⊎_elim
+      (λ t. absurd (both_ways (p x) f (P 0 1 x (omega arith) (omega arith) t)))
+      (λ g. counted_no y ys g ∙ none_behind y ys (tail x (y ∷ ys) P) g)
+      (cases_Bool (p y))
+
+  -- those that pass are the first ones
+  pub at_count : (xs : List X) → Partitioned p xs → (i : ℕ) (d : X) → (i < count_by p xs → p (get_or xs i d) ≡ true) × (count_by p xs ≤ i → i < length xs → p (get_or xs i d) ≡ false)
+  at_count [] P i d = (λ h. absurd (omega arith), λ h lt. absurd (omega arith))
+  at_count (x ∷ xs) P zero d =
+      ⊎_elim
+      (λ t. let n = counted_yes x xs t in (λ h. t, λ h lt. absurd (omega arith)))
+      (λ f. let n = counted_no x xs f in let z = none_behind x xs P f in (λ h. absurd (omega arith), λ h lt. f))
+      (cases_Bool (p x))
+  at_count (x ∷ xs) P (suc i) d =
+      let ih = at_count xs (tail x xs P) i d in
+      ⊎_elim
+      (λ t. let n = counted_yes x xs t in (λ h. ih.0 (omega arith), λ h lt. ih.1 (omega arith) (omega arith)))
+      (λ f. let n = counted_no x xs f in let z = none_behind x xs P f in (λ h. absurd (omega arith), λ h lt. ih.1 (omega arith) (omega arith)))
+      (cases_Bool (p x))
+
+  count_take : (xs : List X) → Partitioned p xs → (i : ℕ) → count_by p (take i xs) ≡ min i (count_by p xs)
+  count_take [] P zero = omega arith
+  count_take [] P (suc i) = omega arith
+  count_take (x ∷ xs) P zero = omega arith
+  count_take (x ∷ xs) P (suc i) =
+      let ih = count_take xs (tail x xs P) i in
+      ⊎_elim
+      (λ t. let n = counted_yes x xs t in let m = counted_yes x (take i xs) t in omega arith)
+      (λ f. let n = counted_no x xs f in let m = counted_no x (take i xs) f in let z = none_behind x xs P f in omega arith)
+      (cases_Bool (p x))
 
 module _ {K : Type 0} {less : K → K → Bool} (o : StrictOrder less) where
   -- y is not smaller than x
   less_of : (x y k : K) → less y x ≡ false → less y k ≡ true → less x k ≡ true
   less_of x y k a b = grind (arith, o.irreflexive, o.transitive, o.connected)
 
-  not_less_of : (x y k : K) → less y x ≡ false → less x k ≡ false → less y k ≡ false
-  not_less_of x y k a b = grind (arith, o.irreflexive, o.transitive, o.connected)
-
   greater_of : (x y k : K) → less y x ≡ false → less k x ≡ true → less k y ≡ true
   greater_of x y k a b = grind (arith, o.irreflexive, o.transitive, o.connected)
 
+not_back : (b c : Bool) → not b ≡ not c → b ≡ c
+not_back true true e = refl
+not_back true false e = cc
+not_back false true e = cc
+not_back false false e = refl
+
 module _ {K V : Type 0} {less : K → K → Bool} (o : StrictOrder less) where
   -- an entry's key is smaller than k, k itself, or greater
-  pub bounds : (es : List (Cell K V)) (k : K)
-      → smaller less es k + length (values_under less (λ e. e.key) (λ e. e.value) es k) ≡ not_greater less es k
+  pub bounds : (es : List (Cell K V)) (k : K) → smaller less es k + length (values_under less (λ e. e.key) (λ e. e.value) es k) ≡ not_greater less es k
   bounds [] k = refl
   bounds (e ∷ es) k =
       let ih = bounds es k in
+      let m = counted (λ (x : Cell K V). less x.key k) e es in
+      let n = counted (λ (x : Cell K V). not (less k x.key)) e es in
       ⊎_elim
-      (λ w. let t = w.0 in let f = w.1 in rw (t, f) (omega arith))
+      (λ w. let t = w.0 in let f = w.1 in let a = rw t at m in let b = rw f at n in rw (t, f) (omega arith))
       (⊎_elim
-      (λ w. let f = w.0 in let t = w.1 in rw (f, t) ih)
-      (λ q. let i = o.irreflexive k in let f : less e.key k ≡ false = cc in let g : less k e.key ≡ false = cc in rw (f, g) (omega arith)))
+      (λ w. let f = w.0 in let t = w.1 in let a = rw f at m in let b = rw t at n in rw (f, t) (omega arith))
+      (λ q. let i = o.irreflexive k in let f : less e.key k ≡ false = cc in let g : less k e.key ≡ false = cc in let a = rw f at m in let b = rw g at n in rw (f, g) (omega arith)))
       (trichotomy o e.key k)
 
   none_at : (es : List (Cell K V)) (k : K) (i : ℕ) (d : Cell K V) → NoneSmaller less k es → i < length es → less (get_or es i d).key k ≡ false
   none_at [] k i d n h = absurd (omega arith)
   none_at (e ∷ es) k zero d n h = n.0
   none_at (e ∷ es) k (suc i) d n h = none_at es k i d n.1 (omega arith)
-
-  none_mono : (es : List (Cell K V)) (x k : K) → NoneSmaller less x es → less x k ≡ false → NoneSmaller less k es
-  none_mono [] x k n f = tt
-  none_mono (e ∷ es) x k n f = (not_less_of o x e.key k n.0 f, none_mono es x k n.1 f)
 
   pub sorted_at : (es : List (Cell K V)) (i j : ℕ) (d : Cell K V) → Sorted less es → i ≤ j → j < length es → less (get_or es j d).key (get_or es i d).key ≡ false
   sorted_at [] i j d s le lt = absurd (omega arith)
@@ -49,157 +100,53 @@ module _ {K V : Type 0} {less : K → K → Bool} (o : StrictOrder less) where
   sorted_at (e ∷ es) (suc i) zero d s le lt = absurd (omega arith)
   sorted_at (e ∷ es) (suc i) (suc j) d s le lt = sorted_at es i j d s.1 (omega arith) (omega arith)
 
-  -- ---- what a search counts
-
-  pub smaller-count : (es : List (Cell K V)) (k : K) → count_by (λ (e : Cell K V). less e.key k) es ≡ smaller less es k
-  smaller-count [] k = refl
-  smaller-count (e ∷ es) k =
-      let n = sum_by-cons (λ (x : Cell K V). cond (less x.key k) 1 0) e es in
-      let ih = smaller-count es k in
-      elim (less e.key k) as (λ b. count_by (λ (x : Cell K V). less x.key k) (e ∷ es) ≡ cond b 1 0 + count_by (λ (x : Cell K V). less x.key k) es
-      → count_by (λ (x : Cell K V). less x.key k) (e ∷ es) ≡ cond b (1 + smaller less es k) (smaller less es k))
-      [ true ↦ λ m. omega (arith, m) | false ↦ λ m. omega (arith, m) ] n
-
-  pub not_greater-count : (es : List (Cell K V)) (k : K) → count_by (λ (e : Cell K V). not (less k e.key)) es ≡ not_greater less es k
-  not_greater-count [] k = refl
-  not_greater-count (e ∷ es) k =
-      let n = sum_by-cons (λ (x : Cell K V). cond (not (less k x.key)) 1 0) e es in
-      let ih = not_greater-count es k in
-      elim (less k e.key) as (λ b. count_by (λ (x : Cell K V). not (less k x.key)) (e ∷ es) ≡ cond (not b) 1 0 + count_by (λ (x : Cell K V). not (less k x.key)) es
-      → count_by (λ (x : Cell K V). not (less k x.key)) (e ∷ es) ≡ cond b (not_greater less es k) (1 + not_greater less es k))
-      [ true ↦ λ m. omega (arith, m) | false ↦ λ m. omega (arith, m) ] n
-
   -- ---- both tests of a search part the entries
 
-  pub smaller-parts : (es : List (Cell K V)) (k : K) → Sorted less es → (i j : ℕ) (d : Cell K V) → i ≤ j → j < length es → less (get_or es j d).key k ≡ true → less (get_or es i d).key k ≡ true
+  pub smaller-parts : (es : List (Cell K V)) (k : K) → Sorted less es → Partitioned (λ (e : Cell K V). less e.key k) es
   smaller-parts es k s i j d le lt t = less_of o (get_or es i d).key (get_or es j d).key k (sorted_at es i j d s le lt) t
 
-  pub not_greater-parts : (es : List (Cell K V)) (k : K) → Sorted less es → (i j : ℕ) (d : Cell K V) → i ≤ j → j < length es → not (less k (get_or es j d).key) ≡ true → not (less k (get_or es i d).key) ≡ true
+  pub not_greater-parts : (es : List (Cell K V)) (k : K) → Sorted less es → Partitioned (λ (e : Cell K V). not (less k e.key)) es
   not_greater-parts es k s i j d le lt t =
       ⊎_elim
-      (λ (u : less k (get_or es i d).key ≡ true). let v = greater_of o (get_or es i d).key (get_or es j d).key k (sorted_at es i j d s le lt) u in
-      absurd (both_ways (less k (get_or es j d).key) (not_true (less k (get_or es j d).key) t) v))
+      (λ (u : less k (get_or es i d).key ≡ true). absurd (both_ways (less k (get_or es j d).key) (not_back _ false t) (greater_of o (get_or es i d).key (get_or es j d).key k (sorted_at es i j d s le lt) u)))
       (λ (f : less k (get_or es i d).key ≡ false). rw f)
       (cases_Bool (less k (get_or es i d).key))
-    where
-      not_true : (b : Bool) → not b ≡ true → b ≡ false
-      not_true true h = sym h
-      not_true false h = refl
 
-  -- ---- the entries of a key
+-- ---- the entries of a key
 
-  none_smaller : (es : List (Cell K V)) (k : K) → NoneSmaller less k es → smaller less es k ≡ 0
-  none_smaller [] k n = refl
-  none_smaller (e ∷ es) k n = let f = n.0 in rw f (none_smaller es k n.1)
+module _ {K V : Type 0} {less : K → K → Bool} (o : StrictOrder less) (es : List (Cell K V)) (k : K) (i : ℕ) (d : Cell K V) (s : Sorted less es) where
+  -- an entry before those of k is smaller, and from there on none is
+  pub ahead_place : i < smaller less es k → less (get_or es i d).key k ≡ true
+  ahead_place h = (at_count (λ (e : Cell K V). less e.key k) es (smaller-parts o es k s) i d).0 h
 
-  all_greater : (es : List (Cell K V)) (x k : K) → NoneSmaller less x es → less k x ≡ true → not_greater less es k ≡ 0
-  all_greater [] x k n t = refl
-  all_greater (e ∷ es) x k n t =
-      let g = greater_of o x e.key k n.0 t in rw g (all_greater es x k n.1 t)
+  pub from_place : smaller less es k ≤ i → i < length es → less (get_or es i d).key k ≡ false
+  from_place h lt = (at_count (λ (e : Cell K V). less e.key k) es (smaller-parts o es k s) i d).1 h lt
 
-  -- a first entry that is greater than k leaves no place for k's entries
-  none_here : (e : Cell K V) (es : List (Cell K V)) (k : K) → Sorted less (e ∷ es) → less k e.key ≡ true → not_greater less (e ∷ es) k ≡ 0
-  none_here e es k s t = rw t (all_greater es e.key k s.0 t)
+  -- up to the last one of k none is greater, and an entry behind it is
+  pub up_to_place : i < not_greater less es k → less k (get_or es i d).key ≡ false
+  up_to_place h = not_back _ false ((at_count (λ (e : Cell K V). not (less k e.key)) es (not_greater-parts o es k s) i d).0 h)
 
-  -- behind a first entry that is not smaller than k, none is
-  none_behind : (e : Cell K V) (es : List (Cell K V)) (k : K) → Sorted less (e ∷ es) → less e.key k ≡ false → smaller less es k ≡ 0
-  none_behind e es k s f = none_smaller es k (none_mono es e.key k s.0 f)
+  pub behind_place : not_greater less es k ≤ i → i < length es → less k (get_or es i d).key ≡ true
+  behind_place h lt = not_back _ true ((at_count (λ (e : Cell K V). not (less k e.key)) es (not_greater-parts o es k s) i d).1 h lt)
 
+  pub key_at : smaller less es k ≤ i → i < not_greater less es k → (get_or es i d).key ≡ k
+  key_at a b = let n = count_by-le-length (λ (e : Cell K V). not (less k e.key)) es in o.connected (get_or es i d).key k (from_place a (omega arith)) (up_to_place b)
+
+module _ {K V : Type 0} {less : K → K → Bool} (o : StrictOrder less) where
   -- before a place among k's entries there are as many values of k as the place lies past the first of them
   pub before_place : (es : List (Cell K V)) (k : K) (i : ℕ) → Sorted less es → smaller less es k ≤ i → i ≤ not_greater less es k
       → smaller less es k + length (values_under less (λ e. e.key) (λ e. e.value) (take i es) k) ≡ i
-  before_place [] k zero s a b = refl
-  before_place [] k (suc i) s a b = absurd (omega arith)
-  before_place (e ∷ es) k zero s a b = omega arith
-  before_place (e ∷ es) k (suc i) s a b =
-      ⊎_elim
-      (λ w. let t = w.0 in let f = w.1 in
-      let x : 1 + smaller less es k ≤ suc i = rw t at a in let y : suc i ≤ 1 + not_greater less es k = rw f at b in
-      let ih = before_place es k i s.1 (omega arith) (omega arith) in rw t (omega arith))
-      (⊎_elim
-      (λ w. let n = none_here e es k s w.1 in absurd (omega (arith, n)))
-      (λ q. let ir = o.irreflexive k in let f : less e.key k ≡ false = cc in let g : less k e.key ≡ false = cc in
-      let z = none_behind e es k s f in let y : suc i ≤ 1 + not_greater less es k = rw g at b in
-      let ih : smaller less es k + length (values_under less (λ e. e.key) (λ e. e.value) (take i es) k) ≡ i = before_place es k i s.1 (omega arith) (omega arith) in
-      rw (f, g) (omega arith)))
-      (trichotomy o e.key k)
-
-  pub key_at : (es : List (Cell K V)) (k : K) (i : ℕ) (d : Cell K V) → Sorted less es → smaller less es k ≤ i → i < not_greater less es k → (get_or es i d).key ≡ k
-  key_at [] k i d s a b = absurd (omega arith)
-  key_at (e ∷ es) k zero d s a b =
-      ⊎_elim
-      (λ w. let t = w.0 in let x : 1 + smaller less es k ≤ 0 = rw t at a in absurd (omega arith))
-      (⊎_elim (λ w. let n = none_here e es k s w.1 in absurd (omega (arith, n))) (λ q. q))
-      (trichotomy o e.key k)
-  key_at (e ∷ es) k (suc i) d s a b =
-      ⊎_elim
-      (λ w. let t = w.0 in let f = w.1 in
-      let x : 1 + smaller less es k ≤ suc i = rw t at a in let y : suc i < 1 + not_greater less es k = rw f at b in
-      key_at es k i d s.1 (omega arith) (omega arith))
-      (⊎_elim
-      (λ w. let n = none_here e es k s w.1 in absurd (omega (arith, n)))
-      (λ q. let ir = o.irreflexive k in let f : less e.key k ≡ false = cc in let g : less k e.key ≡ false = cc in
-      let z = none_behind e es k s f in let y : suc i < 1 + not_greater less es k = rw g at b in
-      key_at es k i d s.1 (omega arith) (omega arith)))
-      (trichotomy o e.key k)
-
-  -- an entry behind those of k is greater
-  pub behind_place : (es : List (Cell K V)) (k : K) (i : ℕ) (d : Cell K V) → Sorted less es → not_greater less es k ≤ i → i < length es → less k (get_or es i d).key ≡ true
-  behind_place [] k i d s a b = absurd (omega arith)
-  behind_place (e ∷ es) k zero d s a b =
-      ⊎_elim
-      (λ (t : less k e.key ≡ true). t)
-      (λ (f : less k e.key ≡ false). let x : 1 + not_greater less es k ≤ 0 = rw f at a in absurd (omega arith))
-      (cases_Bool (less k e.key))
-  behind_place (e ∷ es) k (suc i) d s a b =
-      ⊎_elim
-      (λ (t : less k e.key ≡ true). greater_of o e.key (get_or es i d).key k (none_at es e.key i d s.0 (omega arith)) t)
-      (λ (f : less k e.key ≡ false). let x : 1 + not_greater less es k ≤ suc i = rw f at a in behind_place es k i d s.1 (omega arith) (omega arith))
-      (cases_Bool (less k e.key))
-
-  -- up to there none is greater
-  pub up_to_place : (es : List (Cell K V)) (k : K) (i : ℕ) (d : Cell K V) → Sorted less es → i < not_greater less es k → less k (get_or es i d).key ≡ false
-  up_to_place [] k i d s b = absurd (omega arith)
-  up_to_place (e ∷ es) k zero d s b =
-      ⊎_elim
-      (λ (t : less k e.key ≡ true). let z = none_here e es k s t in absurd (omega (arith, z)))
-      (λ (f : less k e.key ≡ false). f)
-      (cases_Bool (less k e.key))
-  up_to_place (e ∷ es) k (suc i) d s b =
-      ⊎_elim
-      (λ (t : less k e.key ≡ true). let z = none_here e es k s t in absurd (omega (arith, z)))
-      (λ (f : less k e.key ≡ false). let x : suc i < 1 + not_greater less es k = rw f at b in up_to_place es k i d s.1 (omega arith))
-      (cases_Bool (less k e.key))
-
-  -- an entry before those of k is smaller
-  pub ahead_place : (es : List (Cell K V)) (k : K) (i : ℕ) (d : Cell K V) → Sorted less es → i < smaller less es k → less (get_or es i d).key k ≡ true
-  ahead_place [] k i d s b = absurd (omega arith)
-  ahead_place (e ∷ es) k zero d s b =
-      ⊎_elim
-      (λ (t : less e.key k ≡ true). t)
-      (λ (f : less e.key k ≡ false). let z = none_behind e es k s f in let x : 0 < smaller less es k = rw f at b in absurd (omega arith))
-      (cases_Bool (less e.key k))
-  ahead_place (e ∷ es) k (suc i) d s b =
-      ⊎_elim
-      (λ (t : less e.key k ≡ true). let x : suc i < 1 + smaller less es k = rw t at b in ahead_place es k i d s.1 (omega arith))
-      (λ (f : less e.key k ≡ false). let z = none_behind e es k s f in let x : suc i < smaller less es k = rw f at b in absurd (omega arith))
-      (cases_Bool (less e.key k))
-
-  -- from there on none is smaller
-  pub from_place : (es : List (Cell K V)) (k : K) (i : ℕ) (d : Cell K V) → Sorted less es → smaller less es k ≤ i → i < length es → less (get_or es i d).key k ≡ false
-  from_place [] k i d s a b = absurd (omega arith)
-  from_place (e ∷ es) k zero d s a b =
-      ⊎_elim
-      (λ (t : less e.key k ≡ true). let x : 1 + smaller less es k ≤ 0 = rw t at a in absurd (omega arith))
-      (λ (f : less e.key k ≡ false). f)
-      (cases_Bool (less e.key k))
-  from_place (e ∷ es) k (suc i) d s a b =
-      ⊎_elim
-      (λ (t : less e.key k ≡ true). let x : 1 + smaller less es k ≤ suc i = rw t at a in from_place es k i d s.1 (omega arith) (omega arith))
-      (λ (f : less e.key k ≡ false). not_less_of o e.key (get_or es i d).key k (none_at es e.key i d s.0 (omega arith)) f)
-      (cases_Bool (less e.key k))
+  before_place es k i s a b =
+      let n = bounds o (take i es) k in
+      let x = count_take (λ (e : Cell K V). less e.key k) es (smaller-parts o es k s) i in
+      let y = count_take (λ (e : Cell K V). not (less k e.key)) es (not_greater-parts o es k s) i in
+      omega arith
 
   -- ---- edits that keep entries sorted
+
+  none_all : (es : List (Cell K V)) (k : K) → ((j : ℕ) (d : Cell K V) → j < length es → less (get_or es j d).key k ≡ false) → NoneSmaller less k es
+  none_all [] k h = tt
+  none_all (e ∷ es) k h = (h 0 e (omega arith), none_all es k (λ j d lt. h (suc j) d (omega arith)))
 
   none_put : (es : List (Cell K V)) (x : K) (i : ℕ) (c : Cell K V) → NoneSmaller less x es → less c.key x ≡ false → NoneSmaller less x (take i es ++ c ∷ drop i es)
   none_put [] x zero c n f = (f, tt)
@@ -207,25 +154,19 @@ module _ {K V : Type 0} {less : K → K → Bool} (o : StrictOrder less) where
   none_put (e ∷ es) x zero c n f = (f, n)
   none_put (e ∷ es) x (suc i) c n f = (n.0, none_put es x i c n.1 f)
 
+  -- an entry that is not smaller than those before the place, and no greater than those from there on
+  put_between : (es : List (Cell K V)) (i : ℕ) (c : Cell K V) → Sorted less es → ((j : ℕ) (d : Cell K V) → j < i → j < length es → less c.key (get_or es j d).key ≡ false)
+      → ((j : ℕ) (d : Cell K V) → i ≤ j → j < length es → less (get_or es j d).key c.key ≡ false) → Sorted less (take i es ++ c ∷ drop i es)
+  put_between [] zero c s a b = (tt, tt)
+  put_between [] (suc i) c s a b = (tt, tt)
+  put_between (e ∷ es) zero c s a b = (none_all (e ∷ es) c.key (λ j d lt. b j d (omega arith) lt), s)
+  put_between (e ∷ es) (suc i) c s a b = (
+    none_put es e.key i c s.0 (a 0 e (omega arith) (omega arith)),
+    put_between es i c s.1 (λ j d h lt. a (suc j) d (omega arith) (omega arith)) (λ j d h lt. b (suc j) d (omega arith) (omega arith)),
+  )
+
   pub sorted_put : (es : List (Cell K V)) (i : ℕ) (c : Cell K V) → Sorted less es → smaller less es c.key ≤ i → i ≤ not_greater less es c.key → Sorted less (take i es ++ c ∷ drop i es)
-  sorted_put [] zero c s a b = (tt, tt)
-  sorted_put [] (suc i) c s a b = (tt, tt)
-  sorted_put (e ∷ es) zero c s a b =
-      ⊎_elim
-      (λ (t : less e.key c.key ≡ true). let x : 1 + smaller less es c.key ≤ 0 = rw t at a in absurd (omega arith))
-      (λ (f : less e.key c.key ≡ false). ((f, none_mono es e.key c.key s.0 f), s))
-      (cases_Bool (less e.key c.key))
-  sorted_put (e ∷ es) (suc i) c s a b =
-      ⊎_elim
-      (λ w. let t = w.0 in let f = w.1 in
-      let x : 1 + smaller less es c.key ≤ suc i = rw t at a in let y : suc i ≤ 1 + not_greater less es c.key = rw f at b in
-      (none_put es e.key i c s.0 f, sorted_put es i c s.1 (omega arith) (omega arith)))
-      (⊎_elim
-      (λ w. let n = none_here e es c.key s w.1 in absurd (omega (arith, n)))
-      (λ q. let ir = o.irreflexive c.key in let f : less e.key c.key ≡ false = cc in let g : less c.key e.key ≡ false = cc in
-      let z = none_behind e es c.key s f in let y : suc i ≤ 1 + not_greater less es c.key = rw g at b in
-      (none_put es e.key i c s.0 g, sorted_put es i c s.1 (omega arith) (omega arith))))
-      (trichotomy o e.key c.key)
+  sorted_put es i c s a b = put_between es i c s (λ j d h lt. up_to_place o es c.key j d s (omega arith)) (λ j d h lt. from_place o es c.key j d s (omega arith) lt)
 
   none_take : (es : List (Cell K V)) (x : K) (i : ℕ) → NoneSmaller less x es → NoneSmaller less x (take i es ++ drop (suc i) es)
   none_take [] x zero n = tt

@@ -1,5 +1,5 @@
 -- Entries sorted by their keys, and where the entries of one key stand among them.
-use Rattle.std.specs.Prelude.{◌≡◌, ℕ, ◌+◌, Bool, false, cond, List, [], ◌∷◌}
+use Rattle.std.specs.Prelude.{◌≡◌, ℕ, Bool, false, not, List, [], ◌∷◌, count_by}
 use Rattle.std.specs.Coded.{Coded-set, coded_bool, ×_prop, Unit-prop}
 use Rattle.chains.specs.Entries.{contents_of}
 use Rattle.ordered.specs.declared.cell.Cell.{Cell}
@@ -17,12 +17,10 @@ Sorted less (e ∷ es) = NoneSmaller less e.key es × Sorted less es
 -- how many entries have a smaller key, and how many have one that is not greater: the entries of k
 -- stand from the first of these places up to the second
 abbrev pub smaller : {K V : Type 0} → (K → K → Bool) → List (Cell K V) → K → ℕ
-smaller less [] k = 0
-smaller less (e ∷ es) k = cond (less e.key k) (1 + smaller less es k) (smaller less es k)
+smaller less es k = count_by (λ e. less e.key k) es
 
 abbrev pub not_greater : {K V : Type 0} → (K → K → Bool) → List (Cell K V) → K → ℕ
-not_greater less [] k = 0
-not_greater less (e ∷ es) k = cond (less k e.key) (not_greater less es k) (1 + not_greater less es k)
+not_greater less es k = count_by (λ e. not (less k e.key)) es
 
 -- what the entries hold: each key's values in the order of the entries
 abbrev pub held : {K V : Type 0} → (K → K → Bool) → List (Cell K V) → List (K × List V)
