@@ -11,7 +11,7 @@ use Rattle.split.proofs.Sections.{low_full, high_full}
 use Rattle.split.proofs.Outcomes.{Run, Call, outcome, whole_outcome, still}
 
 module _ {K V : Type 0} {less : K → K → Bool} (o : StrictOrder less) {boundary : K} {low high : StoreState K V} (d : Divided less boundary low high) {k : K} where
-  pub side-values : (side : Bool) → less k boundary ≡ side → values less (joined less boundary low high) k ≡ cond side (values less low k) (values less high k)
+  pub side-values : (side : Bool) → less k boundary ≡ side → values less (joined less boundary low high) k ≡ values less (cond side low high) k
   side-values true t = low_sequence o low.contents high.contents k (before_high o high.contents k boundary t d.from)
   side-values false f = high_sequence o low.contents high.contents k (behind_low o low.contents k boundary f d.below)
 
