@@ -1,5 +1,5 @@
 -- The last and the neighbouring keys of contents in two parts.
-use Rattle.std.proofs.Common.{◌≡◌, Bool, List, [], ◌∷◌, ◌++◌, Some, None, Option, refl, arith}
+use Rattle.std.proofs.Common.{◌≡◌, Bool, List, [], ◌∷◌, ◌++◌, None, Option, refl, arith}
 use Rattle.std.specs.Option.{option_or}
 use Rattle.keys.specs.Order.{StrictOrder}
 use Rattle.chains.specs.Contents.{BelowAll, or_else, first_key, last_key, key_above, key_below}
