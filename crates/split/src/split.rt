@@ -40,8 +40,7 @@ impl<A: ChainStore, B: ChainStore<Key = A::Key, Value = A::Value>> Split<A, B> {
 
     /// Whether the key belongs to the low store. The store that it belongs to has its values.
     fn is_low(&self, key: A::Key) -> bool
-        ensures side { A.Key.less key self.now.boundary ≡ result }
-        ensures values { values A.Key.less (state self.now) key ≡ values A.Key.less (if result then A.state self.now.low else B.state self.now.high) key }
+        ensures { A.Key.less key self.now.boundary ≡ result }
     {
         key.is_less(&self.boundary)
     }

@@ -9,7 +9,6 @@ impl<A: OrderedStore, B: OrderedStore<Key = A::Key, Value = A::Value>> OrderedSt
         self.low.first().or_else(|| self.high.first())
     }
 
-    #[tactic(auto, using(crate::proofs::Neighbours::last_append))]
     fn last(&self) -> Option<A::Key> {
         self.high.last().or_else(|| self.low.last())
     }
