@@ -5,7 +5,7 @@ use Rattle.std.specs.Option.{option_or}
 use Rattle.keys.specs.Order.{StrictOrder}
 use Rattle.keys.specs.declared.key.Key
 use Rattle.chains.specs.Contents.{BelowAll, first_key, last_key, key_above, key_below}
-use Rattle.chains.specs.State.{StoreState, values, is_full}
+use Rattle.chains.specs.State.{StoreState, values}
 use Rattle.chains.specs.declared.store.ChainStore
 use Rattle.split.specs.Joined.{AllBelow, joined, Divided}
 use Rattle.split.specs.Store.{state}
@@ -22,32 +22,27 @@ module _ {A B K V : Type 0} {low : ChainStore.Ghosts A K V} {key : Key.Ghosts K}
   behind : key.less k s.boundary ≡ false → AllBelow key.less k (low.state s.low).contents
   behind f = behind_low o (low.state s.low).contents k s.boundary f s.divided.below
 
-  -- ---- what the key's own store says, and what both say together
+  -- ---- what both stores say together, by what the key's own store says
+
+  by_side : {X : Type 0} {x y z : X} → (BelowAll key.less k (high.state s.high).contents → x ≡ y) → (AllBelow key.less k (low.state s.low).contents → x ≡ z) → x ≡ cond (key.less k s.boundary) y z
+  by_side l h =
+      ⊎_elim
+      (λ (t : key.less k s.boundary ≡ true). rw t (l (before t)))
+      (λ (f : key.less k s.boundary ≡ false). rw f (h (behind f)))
+      (cases_Bool (key.less k s.boundary))
 
   pub values_in : values key.less (state s) k ≡ cond (key.less k s.boundary) (values key.less (low.state s.low) k) (values key.less (high.state s.high) k)
-  values_in =
-      ⊎_elim
-      (λ (t : key.less k s.boundary ≡ true). rw t (low_sequence o _ _ k (before t)))
-      (λ (f : key.less k s.boundary ≡ false). rw f (high_sequence o _ _ k (behind f)))
-      (cases_Bool (key.less k s.boundary))
+  values_in = by_side (low_sequence o _ _ k) (high_sequence o _ _ k)
 
   pub above_in : key_above key.less (state s).contents k ≡ cond (key.less k s.boundary)
       (option_or (key_above key.less (low.state s.low).contents k) (first_key (high.state s.high).contents))
       (key_above key.less (high.state s.high).contents k)
-  above_in =
-      ⊎_elim
-      (λ (t : key.less k s.boundary ≡ true). rw t (above_low o _ _ k (before t)))
-      (λ (f : key.less k s.boundary ≡ false). rw f (above_high o _ _ k (behind f)))
-      (cases_Bool (key.less k s.boundary))
+  above_in = by_side (above_low o _ _ k) (above_high o _ _ k)
 
   pub below_in : key_below key.less (state s).contents k ≡ cond (key.less k s.boundary)
       (key_below key.less (low.state s.low).contents k)
       (option_or (key_below key.less (high.state s.high).contents k) (last_key (low.state s.low).contents))
-  below_in =
-      ⊎_elim
-      (λ (t : key.less k s.boundary ≡ true). rw t (below_low o _ _ k (before t)))
-      (λ (f : key.less k s.boundary ≡ false). rw f (below_high o _ _ k (behind f)))
-      (cases_Bool (key.less k s.boundary))
+  below_in = by_side (below_low o _ _ k) (below_high o _ _ k)
 
   -- ---- what a call leaves in the key's own store, it leaves in both together
 
@@ -76,5 +71,5 @@ module _ {A B K V : Type 0} {low : ChainStore.Ghosts A K V} {key : Key.Ghosts K}
           still key.less k call p (λ q. Divided key.less s.boundary (low.state s.low) q) s.divided
           (λ vs. record { below = s.divided.below; from = with_each (λ j. key.less j s.boundary ≡ false) key.less (high.state s.high).contents k vs s.divided.from (is ∙ f) })
 
--- what the check is to know of each call
+-- what the check looks up at each goal
 pub ruleset sides = (values_in, above_in, below_in, last_append)
