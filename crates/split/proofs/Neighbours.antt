@@ -1,5 +1,5 @@
 -- The last and the neighbouring keys of contents in two parts.
-use Rattle.std.proofs.Common.{◌≡◌, Bool, List, [], ◌∷◌, ◌++◌, Some, None, Option, refl, arith}
+use Rattle.std.proofs.Common.{◌≡◌, Bool, List, [], ◌∷◌, ◌++◌, None, Option, refl, arith}
 use Rattle.std.specs.Option.{option_or}
 use Rattle.keys.specs.Order.{StrictOrder}
 use Rattle.chains.specs.Contents.{BelowAll, or_else, first_key, last_key, key_above, key_below}
@@ -13,9 +13,9 @@ or_behind : {K : Type 0} (p q : Option K) (k : K) → or_else (option_or p q) k 
 or_behind p q k = grind arith
 
 module _ {K V : Type 0} where
-  pub last-append : (xs ys : List (K × List V)) → last_key (xs ++ ys) ≡ option_or (last_key ys) (last_key xs)
-  last-append [] ys = grind arith
-  last-append (x ∷ xs) ys = let ih = last-append xs ys in grind arith
+  pub last_append : (xs ys : List (K × List V)) → last_key (xs ++ ys) ≡ option_or (last_key ys) (last_key xs)
+  last_append [] ys = grind arith
+  last_append (x ∷ xs) ys = let ih = last_append xs ys in grind arith
 
 module _ {K V : Type 0} {less : K → K → Bool} (o : StrictOrder less) where
   -- ---- of a key that stands before ys

@@ -12,5 +12,5 @@ module _ {A B K V : Type 0} {low : ChainStore.Ghosts A K V} {key : Key.Ghosts K}
     low = a i;
     high = b i;
     boundary = k i;
-    divided = is_prop→PathP (λ j. Divided key.less (k j) (low.state (a j)) (high.state (b j))) (λ j. Divided-prop key.less (k j) (low.state (a j)) (high.state (b j))) s.divided t.divided i;
+    divided = is_prop→PathP (λ j. Divided key.less (k j) (low.state (a j)) (high.state (b j))) (λ j. Divided-prop) s.divided t.divided i;
   }

@@ -1,5 +1,5 @@
 -- The sections of two joined states: each holds the values, and has the room, that it has in its own state.
-use Rattle.std.proofs.Common.{◌≡◌, ℕ, ◌+◌, ◌*◌, Bool, true, false, eqb, leb, List, [], ◌∷◌, ◌++◌, refl, zero-add, arith}
+use Rattle.std.proofs.Common.{◌≡◌, ℕ, ◌+◌, ◌*◌, Bool, true, false, leb, List, [], ◌∷◌, ◌++◌, refl, arith}
 use Rattle.std.proofs.lemmas.Bool.Decides.{nat_tests}
 use Rattle.chains.specs.Contents.{used}
 use Rattle.chains.specs.State.{StoreState, is_full}

@@ -21,15 +21,15 @@ pub record Divided {K V : Type 0} (less : K → K → Bool) (boundary : K) (low 
   pub below : AllBelow less boundary low.contents
   pub from : NoneBelow less boundary high.contents
 
--- there is one proof at most that keys stand on their side
-each-prop : {K V : Type 0} (P : K → Type 0) → ((k : K) → IsProp (P k)) → (es : List (K × List V)) → IsProp (EachKey P es)
-each-prop P p [] = Unit-prop
-each-prop P p (e ∷ es) = ×_prop (p e.0) (each-prop P p es)
+-- it has one proof at most
+each-prop : {K V : Type 0} {P : K → Type 0} → ((k : K) → IsProp (P k)) → (es : List (K × List V)) → IsProp (EachKey P es)
+each-prop p [] = Unit-prop
+each-prop p (e ∷ es) = ×_prop (p e.0) (each-prop p es)
 
-pub Divided-prop : {K V : Type 0} (less : K → K → Bool) (boundary : K) (low high : StoreState K V) → IsProp (Divided less boundary low high)
-Divided-prop less boundary low high x y i = record {
-  below = each-prop (λ k. less k boundary ≡ true) (λ k. Coded-set coded_bool (less k boundary) true) low.contents x.below y.below i;
-  from = each-prop (λ k. less k boundary ≡ false) (λ k. Coded-set coded_bool (less k boundary) false) high.contents x.from y.from i;
+pub Divided-prop : {K V : Type 0} {less : K → K → Bool} {boundary : K} {low high : StoreState K V} → IsProp (Divided less boundary low high)
+Divided-prop {less = less} {boundary = boundary} {low = low} {high = high} x y i = record {
+  below = each-prop (λ k. Coded-set coded_bool (less k boundary) true) low.contents x.below y.below i;
+  from = each-prop (λ k. Coded-set coded_bool (less k boundary) false) high.contents x.from y.from i;
 }
 
 -- the sections of both, the low state's under the even numbers, the high state's under the odd ones

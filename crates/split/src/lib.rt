@@ -1,5 +1,5 @@
 //! A store made of two: the keys below a boundary in one, all others in the other.
-#![tactic(auto)]
+#![tactic(auto, using(crate::proofs::Sides::sides))]
 
 mod split;
 

@@ -14,8 +14,7 @@ pub struct Split<A: ChainStore, B: ChainStore<Key = A::Key, Value = A::Value>> {
     low: A,
     high: B,
     boundary: A::Key,
-    ghost divided: { Divided A.Key.Key.less boundary (A.ChainStore.state low) (B.ChainStore.state high) }
-        by { Divided-prop A.Key.Key.less boundary (A.ChainStore.state low) (B.ChainStore.state high) },
+    ghost divided: { Divided A.Key.less boundary (A.state low) (B.state high) } by { Divided-prop },
 }
 
 impl<A: ChainStore, B: ChainStore<Key = A::Key, Value = A::Value>> Split<A, B> {
@@ -26,9 +25,9 @@ impl<A: ChainStore, B: ChainStore<Key = A::Key, Value = A::Value>> Split<A, B> {
 
     /// A split of two stores, which are cleared. Its sections and rooms are those of both.
     pub fn new(mut low: A, mut high: B, boundary: A::Key) -> Self
-        ensures state { state result ≡ emptied (joined A.Key.Key.less boundary (A.ChainStore.state low) (B.ChainStore.state high)) }
+        ensures state { state result ≡ emptied (joined A.Key.less boundary (A.state low) (B.state high)) }
         ensures rooms { (n : ℕ) → (state result).room n ≤ 32768 }
-        ensures outside { outside result ≡ (A.ChainStore.outside low, B.ChainStore.outside high) }
+        ensures outside { outside result ≡ (A.outside low, B.outside high) }
     {
         low.clear();
         high.clear();
@@ -41,8 +40,7 @@ impl<A: ChainStore, B: ChainStore<Key = A::Key, Value = A::Value>> Split<A, B> {
 
     /// Whether the key belongs to the low store. The store that it belongs to has its values.
     fn is_low(&self, key: A::Key) -> bool
-        ensures side { A.Key.Key.less key self.now.boundary ≡ result }
-        ensures values { values A.Key.Key.less (state self.now) key ≡ (if result then values A.Key.Key.less (A.ChainStore.state self.now.low) key else values A.Key.Key.less (B.ChainStore.state self.now.high) key) }
+        ensures { A.Key.less key self.now.boundary ≡ result }
     {
         key.is_less(&self.boundary)
     }

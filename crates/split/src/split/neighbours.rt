@@ -3,7 +3,8 @@ use super::Split;
 use chains::{ChainStore, OrderedStore};
 use keys::Key;
 
-impl<A: OrderedStore, B: OrderedStore<Key = A::Key, Value = A::Value>> OrderedStore for Split<A, B> {
+impl<A: OrderedStore, B: OrderedStore<Key = A::Key, Value = A::Value>> OrderedStore
+    for Split<A, B> {
     fn first(&self) -> Option<A::Key> {
         self.low.first().or_else(|| self.high.first())
     }

@@ -12,7 +12,7 @@ impl<A: ChainStore, B: ChainStore<Key = A::Key, Value = A::Value>> ChainStore fo
 
     ghost state = { state_of };
 
-    ghost Outside = { A.ChainStore.Outside × B.ChainStore.Outside };
+    ghost Outside = { A.Outside × B.Outside };
 
     ghost outside = { outside_of };
 

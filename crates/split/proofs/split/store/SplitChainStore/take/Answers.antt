@@ -5,16 +5,16 @@ use Rattle.split.proofs.Sides.{low_outcome, low_divided, high_outcome, high_divi
 use Rattle.split.proofs.split.store.SplitChainStore.take.Goals as goal
 
 pub invariant_of-self : goal.invariant_of-self
-invariant_of-self g c = record { divided = search (low_divided g.met.A.Key.Key.order c.args.self.now.divided (take g.row.A-Value.Denot c.args.rank)) }
+invariant_of-self g c = record { divided = search (low_divided c.args.self.now c.args.key g.met.A.Key.Key.order (take g.row.A-Value.Denot c.args.rank)) }
 
 pub invariant_of-self-else-is_low : goal.invariant_of-self-else-is_low
-invariant_of-self-else-is_low g c = record { divided = search (high_divided g.met.A.Key.Key.order c.args.self.now.divided (take g.row.A-Value.Denot c.args.rank)) }
+invariant_of-self-else-is_low g c = record { divided = search (high_divided c.args.self.now c.args.key g.met.A.Key.Key.order (take g.row.A-Value.Denot c.args.rank)) }
 
 pub returns-then-is_low-clause-effect : goal.returns-then-is_low-clause-effect
-returns-then-is_low-clause-effect g c = search (low_outcome g.met.A.Key.Key.order c.args.self.now.divided (take g.row.A-Value.Denot c.args.rank))
+returns-then-is_low-clause-effect g c = search (low_outcome c.args.self.now c.args.key g.met.A.Key.Key.order (take g.row.A-Value.Denot c.args.rank))
 
 pub returns-else-is_low-clause-effect : goal.returns-else-is_low-clause-effect
-returns-else-is_low-clause-effect g c = search (high_outcome g.met.A.Key.Key.order c.args.self.now.divided (take g.row.A-Value.Denot c.args.rank))
+returns-else-is_low-clause-effect g c = search (high_outcome c.args.self.now c.args.key g.met.A.Key.Key.order (take g.row.A-Value.Denot c.args.rank))
 
 pub returns-then-is_low-clause-refused : goal.returns-then-is_low-clause-refused
 returns-then-is_low-clause-refused g c h = same_split _ _ (c.take.ensures.refused h) refl refl
