@@ -1,6 +1,6 @@
 -- The outcomes of a store's calls, by the place that a search found and what became of the cells.
 use Rattle.std.proofs.Common.{◌≡◌, ℕ, zero, suc, ◌+◌, ◌%◌, ◌<◌, ◌≤◌, Bool, true, false, cond, ◌≢◌, List, [], ◌∷◌, ◌++◌, length, get_or, take, drop, set, Some, None, Ok, Err, Option, sym, refl, ap, ◌∙◌, subst, ⊎_elim, arith, length-append, length-set}
-use Rattle.std.specs.List.{AllByRecursion, slice_get}
+use Rattle.std.specs.List.{insert, remove, AllByRecursion, slice_get}
 use Rattle.std.proofs.ByRecursion.{All-append}
 use Rattle.std.proofs.lemmas.List.{append-nil}
 use Rattle.std.proofs.lemmas.Option.{slice_get_past, slice_get-get_or}
@@ -9,19 +9,19 @@ use Rattle.keys.specs.Order.{StrictOrder, same}
 use Rattle.chains.specs.Contents.{sequence, with_sequence}
 use Rattle.chains.specs.State.{with_values, put_outcome, set_outcome, take_outcome}
 use Rattle.chains.specs.declared.refusal.Refusal.TheVariants.{Full}
-use Rattle.chains.proofs.Entries.{contents-used}
+use Rattle.chains.proofs.Entries.{contents-used, entry_put, entry-taken, entry_set}
 use Rattle.chains.proofs.Orders.{same_eq, same_refl}
 use Rattle.chains.proofs.Outcomes.{put_full, put_done, set_done, take_done}
 use Rattle.hashed.specs.declared.cell.Cell.{Cell}
 use Rattle.hashed.specs.declared.list.Place.{Place}
 use Rattle.hashed.specs.Links.{Linked, onto, collected, gathered, front}
-use Rattle.hashed.specs.Cells.{target, next_of, first_of, entry_of, entry_in, bucket_of, bucket_entries, entries_in, values_in, held, room_of, used_of, Placed, Found, WellFormed, ValidCells, Relinked, Rewritten}
+use Rattle.hashed.specs.Cells.{target, next_of, first_of, entry_of, entry_in, bucket_of, bucket_entries, entries_in, values_in, held, room_of, used_of, Placed, WellFormed, ValidCells, Relinked, Rewritten}
 use Rattle.hashed.specs.Store.{state_of, InRange, PlaceOf}
 use Rattle.hashed.proofs.Links.{all_left, all_right, collected-append, first_left, walk-length}
 use Rattle.hashed.proofs.Used.{part-length, from_part, after}
 use Rattle.hashed.proofs.Writes.{target_in, rewritten}
-use Rattle.hashed.proofs.WellFormed.{put_apart, put_good, put_others, put_entries, take_apart, take_good, take-others, take-entries, set_good, set-others, set-entries}
-use Rattle.hashed.proofs.Effects.{sequence-parts, put_contents, take-contents, set-contents, placed_after}
+use Rattle.hashed.proofs.WellFormed.{Changed, put_apart, put_change, take_apart, take_change, set_change}
+use Rattle.hashed.proofs.Effects.{sequence-parts, contents_after, valid_after}
 
 -- ---- how many entries there are
 
@@ -214,33 +214,25 @@ module _ {K V : Type 0} {less : K → K → Bool} (o : StrictOrder less) (hash :
           let d : List (K × V) = collected (entry_of cells) f.before in
           let r : List (K × V) = collected (entry_of cells) f.rest in
           let apart = put_apart n cells cells' b x p.previous (k, v) f.before f.rest fl.0 f.last good' fl.1 in_room f.parts in
-          let made : Relinked n cells cells' b p.previous x (front f.rest) (k, v) (Some x) =
+          let relinked : Relinked n cells cells' b p.previous x (front f.rest) (k, v) (Some x) =
           subst (λ (t : Option ℕ). Relinked n cells cells' b p.previous x t (k, v) (Some x)) f.at (linked apart) in
+          let made : Changed n cells cells' (target n free') b (d ++ (k, v) ∷ r) =
+          subst (λ (t : Option ℕ). Changed n cells cells' t b (d ++ (k, v) ∷ r)) (sym next) (put_change n cells cells' b x p.previous (k, v) f.before f.rest fl.0 f.last good' fl.1 in_room f.parts relinked) in
           let was : bucket_entries n cells b ≡ d ++ r = ap (collected (entry_of cells)) f.parts ∙ collected-append (entry_of cells) f.before f.rest in
-          let now = put_entries n cells cells' b x p.previous (k, v) f.before f.rest fl.0 f.last good' fl.1 in_room f.parts made in
-          let others = put_others n cells cells' b x p.previous (k, v) f.before f.rest fl.0 f.last good' fl.1 in_room f.parts made in
-          let counted : length (values_in less d k) ≡ rank = omega (arith, f.count, f.most) in
           let P : K × V → Type 0 = λ e. hash e.0 % n ≡ b in
           let old : AllByRecursion P (d ++ r) = subst (AllByRecursion P) was (placed b in_room) in
           let u = contents-used o (λ e. e.0) (λ e. e.1) (entries_in n cells) in
           let l = room_left n cells fits (Some x) good' in (
-            (
-              subst (λ (t : Option ℕ). WellFormed n cells' t) (sym next) (put_good n cells cells' b x p.previous (k, v) f.before f.rest fl.0 f.last good' fl.1 in_room f.parts made),
-              placed_after o hash n cells k b placed in_room home cells' others (subst (AllByRecursion P) (sym now) (All-append P d ((k, v) ∷ r) (all_left P d r old) (sym home, all_right P d r old))),
-            ),
+            valid_after o hash n cells k b placed in_room home cells' free' _ made (All-append P d ((k, v) ∷ r) (all_left P d r old) (sym home, all_right P d r old)),
             put_done less (state_of less (entries_in n cells) n) k rank v _ (not_past h) (omega (arith, u, l, ap length fl.1))
-                (changed (entries_in n cells) (entries_in n cells') _ (put_contents o hash n cells k b placed in_room home cells' d r rank counted others v was now)),
+                (changed (entries_in n cells) (entries_in n cells') _ (contents_after o hash n cells k b placed in_room home cells' (target n free') d [] ((k, v) ∷ []) r was made
+                (λ c. with_sequence less c k (insert (sequence less c k) rank v))
+                (λ pre post q. entry_put o (λ e. e.0) (λ e. e.1) pre (k, v) post k rank refl (omega (arith, q, f.count, f.most))))),
           )
 
       module _ (link : target n p.link.0 ≡ Some x) where
         s : Standing x
         s = standing x link
-
-        d : List (K × V)
-        d = collected (entry_of cells) at.found.before
-
-        r : List (K × V)
-        r = collected (entry_of cells) s.after
 
         was : bucket_entries n cells p.bucket ≡ collected (entry_of cells) at.found.before ++ s.entry ∷ collected (entry_of cells) s.after
         was =
@@ -256,18 +248,17 @@ module _ {K V : Type 0} {less : K → K → Bool} (o : StrictOrder less) (hash :
             let f = at.found in
             let b = p.bucket in
             let e = s.entry in
-            let before = collected (entry_of cells) f.before in
-            let after = collected (entry_of cells) s.after in
-            let made = linked e s.holds (take_apart n cells cells' b x p.previous (target n free) e f.before s.after f.last good in_room s.parts) in
-            let now = take-entries n cells cells' b x p.previous (target n free) e f.before s.after f.last good in_room s.parts made in
-            let others = take-others n cells cells' b x p.previous (target n free) e f.before s.after f.last good in_room s.parts made in
+            let d : List (K × V) = collected (entry_of cells) f.before in
+            let r : List (K × V) = collected (entry_of cells) s.after in
+            let made : Changed n cells cells' (target n p.link.0) b (d ++ r) =
+            subst (λ (t : Option ℕ). Changed n cells cells' t b (d ++ r)) (sym link) (take_change n cells cells' b x p.previous (target n free) e f.before s.after f.last good in_room s.parts
+            (linked e s.holds (take_apart n cells cells' b x p.previous (target n free) e f.before s.after f.last good in_room s.parts))) in
             let P : K × V → Type 0 = λ e. hash e.0 % n ≡ b in (
-              (
-                subst (λ (t : Option ℕ). WellFormed n cells' t) (sym link) (take_good n cells cells' b x p.previous (target n free) e f.before s.after f.last good in_room s.parts made),
-                placed_after o hash n cells k b placed in_room home cells' others (subst (AllByRecursion P) (sym now) (All-append P before after (all_left P before (e ∷ after) old) (all_right P before (e ∷ after) old).1)),
-              ),
+              valid_after o hash n cells k b placed in_room home cells' p.link.0 _ made (All-append P d r (all_left P d (e ∷ r) old) (all_right P d (e ∷ r) old).1),
               take_done less (state_of less (entries_in n cells) n) k rank _ (stands_within x link)
-                  (changed (entries_in n cells) (entries_in n cells') _ (take-contents o hash n cells k b placed in_room home cells' before after rank s.counted others e s.key was now)),
+                  (changed (entries_in n cells) (entries_in n cells') _ (contents_after o hash n cells k b placed in_room home cells' (target n p.link.0) d (e ∷ []) [] r was made
+                  (λ c. with_sequence less c k (remove (sequence less c k) rank))
+                  (λ pre post q. entry-taken o (λ e. e.0) (λ e. e.1) pre e post k rank s.key (q ∙ s.counted)))),
             )
 
         pub set_does : (v : V) → ((e : K × V) → entry_of cells x ≡ Some e → Rewritten n cells cells' x (e.0, v))
@@ -276,18 +267,15 @@ module _ {K V : Type 0} {less : K → K → Bool} (o : StrictOrder less) (hash :
             let f = at.found in
             let b = p.bucket in
             let e = s.entry in
-            let before = collected (entry_of cells) f.before in
-            let after = collected (entry_of cells) s.after in
-            let made = written e s.holds in
-            let now = set-entries n cells cells' b x p.previous (target n free) (e.0, v) f.before s.after f.last good in_room s.parts made in
-            let others = set-others n cells cells' b x p.previous (target n free) (e.0, v) f.before s.after f.last good in_room s.parts made in
+            let d : List (K × V) = collected (entry_of cells) f.before in
+            let r : List (K × V) = collected (entry_of cells) s.after in
+            let made = set_change n cells cells' b x p.previous (target n free) (e.0, v) f.before s.after f.last good in_room s.parts (written e s.holds) in
             let P : K × V → Type 0 = λ e. hash e.0 % n ≡ b in (
-              (
-                set_good n cells cells' b x p.previous (target n free) (e.0, v) f.before s.after f.last good in_room s.parts made,
-                placed_after o hash n cells k b placed in_room home cells' others (subst (AllByRecursion P) (sym now) (All-append P before ((e.0, v) ∷ after) (all_left P before (e ∷ after) old) ((all_right P before (e ∷ after) old).0, (all_right P before (e ∷ after) old).1))),
-              ),
+              valid_after o hash n cells k b placed in_room home cells' free _ made (All-append P d ((e.0, v) ∷ r) (all_left P d (e ∷ r) old) (all_right P d (e ∷ r) old)),
               set_done less (state_of less (entries_in n cells) n) k rank v _ (stands_within x link)
-                  (changed (entries_in n cells) (entries_in n cells') _ (set-contents o hash n cells k b placed in_room home cells' before after rank s.counted others e v s.key was now)),
+                  (changed (entries_in n cells) (entries_in n cells') _ (contents_after o hash n cells k b placed in_room home cells' (target n free) d (e ∷ []) ((e.0, v) ∷ []) r was made
+                  (λ c. with_sequence less c k (set (sequence less c k) rank v))
+                  (λ pre post q. entry_set o (λ e. e.0) (λ e. e.1) pre e (e.0, v) post k rank s.key s.key (q ∙ s.counted)))),
             )
 
 -- ---- what the calls leave in the lent cells

@@ -1,5 +1,5 @@
 -- Two proofs that two outcomes of a call are the same are the same proof.
-use Rattle.std.proofs.Common.{◌≡◌, Bool, List, Result}
+use Rattle.std.proofs.Common.{Bool, List, Result}
 use Rattle.std.proofs.Props.{props}
 use Rattle.std.specs.Coded.{Coded, Coded-set, coded_list, coded×}
 use mathlib.Core.Sum.{⊎_set}

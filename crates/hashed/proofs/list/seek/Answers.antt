@@ -1,4 +1,4 @@
-use Rattle.std.proofs.Common.{◌<◌, ◌≤◌, true, false, length, sym, ◌∙◌, arith}
+use Rattle.std.proofs.Common.{true, false, length, sym, ◌∙◌, arith}
 use Rattle.hashed.specs.Cells.{target, next_of, first_of, bucket_of}
 use Rattle.hashed.proofs.Links.{walk-length}
 use Rattle.hashed.proofs.Writes.{target_in, read_next, read_entry}

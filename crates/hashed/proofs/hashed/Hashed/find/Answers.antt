@@ -1,4 +1,4 @@
-use Rattle.std.proofs.Common.{ℕ, ◌<◌, List, length, refl, rules, arith, length-take}
+use Rattle.std.proofs.Common.{ℕ, ◌<◌, List, refl, rules, arith, length-take}
 use mathlib.Core.Logic.{∥∥₁_elim}
 use native.Mathlib.Nat.{ℕ_set}
 use Rattle.hashed.specs.declared.cell.Cell.{Cell}

@@ -1,4 +1,4 @@
-use Rattle.std.proofs.Common.{◌<◌, length, arith}
+use Rattle.std.proofs.Common.{length, arith}
 use Rattle.hashed.proofs.Writes.{relinked_first, relinked_next}
 use Rattle.hashed.proofs.list.Place.relink.Goals as goal
 
