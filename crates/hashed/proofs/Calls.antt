@@ -1,25 +1,27 @@
 -- The outcomes of a store's calls, by the place that a search found and what became of the cells.
-use Rattle.std.proofs.Common.{◌≡◌, ℕ, zero, suc, ◌+◌, ◌%◌, ◌<◌, ◌≤◌, Bool, true, false, cond, ◌≢◌, List, [], ◌∷◌, ◌++◌, length, Some, None, Ok, Err, Option, sym, refl, ap, ◌∙◌, subst, ⊎_elim, arith, length-append}
-use Rattle.std.specs.List.{AllByRecursion, slice_get}
+use Rattle.std.proofs.Common.{◌≡◌, ℕ, zero, suc, ◌+◌, ◌%◌, ◌<◌, ◌≤◌, Bool, true, false, cond, ◌≢◌, List, [], ◌∷◌, ◌++◌, length, get_or, take, drop, set, Some, None, Ok, Err, Option, sym, refl, ap, ◌∙◌, subst, ⊎_elim, arith, length-append, length-set}
+use Rattle.std.specs.List.{insert, remove, AllByRecursion, slice_get}
 use Rattle.std.proofs.ByRecursion.{All-append}
 use Rattle.std.proofs.lemmas.List.{append-nil}
-use Rattle.std.proofs.lemmas.Option.{slice_get_past}
+use Rattle.std.proofs.lemmas.Option.{slice_get_past, slice_get-get_or}
 use Rattle.std.proofs.lemmas.Bool.{cases_lt}
 use Rattle.keys.specs.Order.{StrictOrder, same}
 use Rattle.chains.specs.Contents.{sequence, with_sequence}
 use Rattle.chains.specs.State.{with_values, put_outcome, set_outcome, take_outcome}
 use Rattle.chains.specs.declared.refusal.Refusal.TheVariants.{Full}
-use Rattle.chains.proofs.Entries.{contents-used}
+use Rattle.chains.proofs.Entries.{contents-used, entry_put, entry-taken, entry_set}
 use Rattle.chains.proofs.Orders.{same_eq, same_refl}
 use Rattle.chains.proofs.Outcomes.{put_full, put_done, set_done, take_done}
 use Rattle.hashed.specs.declared.cell.Cell.{Cell}
 use Rattle.hashed.specs.declared.list.Place.{Place}
 use Rattle.hashed.specs.Links.{Linked, onto, collected, gathered, front}
-use Rattle.hashed.specs.Cells.{target, next_of, first_of, entry_of, entry_in, bucket_of, bucket_entries, entries_in, values_in, held, Placed, Found, WellFormed, Relinked, Rewritten}
-use Rattle.hashed.specs.Store.{state_of, ValidCells, InRange, PlaceOf}
+use Rattle.hashed.specs.Cells.{target, next_of, first_of, entry_of, entry_in, bucket_of, bucket_entries, entries_in, values_in, held, room_of, used_of, Placed, WellFormed, ValidCells, Relinked, Rewritten}
+use Rattle.hashed.specs.Store.{state_of, InRange, PlaceOf}
 use Rattle.hashed.proofs.Links.{all_left, all_right, collected-append, first_left, walk-length}
-use Rattle.hashed.proofs.WellFormed.{put_apart, put_good, put_others, put_entries, take_apart, take_good, take-others, take-entries, set_good, set-others, set-entries}
-use Rattle.hashed.proofs.Effects.{sequence-parts, put_contents, take-contents, set-contents, placed_after}
+use Rattle.hashed.proofs.Used.{part-length, from_part, after}
+use Rattle.hashed.proofs.Writes.{target_in, rewritten}
+use Rattle.hashed.proofs.WellFormed.{Changed, put_apart, put_change, take_apart, take_change, set_change}
+use Rattle.hashed.proofs.Effects.{sequence-parts, contents_after, valid_after}
 
 -- ---- how many entries there are
 
@@ -77,7 +79,7 @@ module _ {K V : Type 0} {less : K → K → Bool} (o : StrictOrder less) (hash :
       (cases_lt 0 n)
 
   -- at the end of the list, the whole sequence was passed
-  pub at_end : target n p.link ≡ None → length (sequence less (held less (entries_in n cells)) k) ≡ p.passed
+  pub at_end : target n p.link.0 ≡ None → length (sequence less (held less (entries_in n cells)) k) ≡ p.passed
   at_end none = go at.found.rest (sym at.found.at ∙ none) (parts_any at.found.before at.found.rest at.found.parts)
     where
       go : (rest : List ℕ) → front rest ≡ None
@@ -93,7 +95,7 @@ module _ {K V : Type 0} {less : K → K → Bool} (o : StrictOrder less) (hash :
       let q = ap length (parts_any at.found.before at.found.rest at.found.parts) in
       omega (arith, q, length-append before rest, at.found.count)
 
-  pub past_end : (here : Option ℕ) → target n p.link ≡ here → p.passed < rank → length (sequence less (held less (entries_in n cells)) k) < rank
+  pub past_end : (here : Option ℕ) → target n p.link.0 ≡ here → p.passed < rank → length (sequence less (held less (entries_in n cells)) k) < rank
   past_end None e h = let q = at_end e in omega arith
   past_end (Some x) e h = let s = (at.found.stops x e).0 in absurd (omega arith)
 
@@ -106,7 +108,7 @@ module _ {K V : Type 0} {less : K → K → Bool} (o : StrictOrder less) (hash :
     pub key : entry.0 ≡ k
     pub counted : length (values_in less (collected (entry_of cells) at.found.before) k) ≡ rank
 
-  pub standing : (x : ℕ) → target n p.link ≡ Some x → Standing x
+  pub standing : (x : ℕ) → target n p.link.0 ≡ Some x → Standing x
   standing x e = go at.found.rest (sym at.found.at ∙ e) at.found.parts
     where
       go : (rest : List ℕ) → front rest ≡ Some x → bucket_of n cells p.bucket ≡ at.found.before ++ rest → Standing x
@@ -132,19 +134,21 @@ module _ {K V : Type 0} {less : K → K → Bool} (o : StrictOrder less) (hash :
       ∙ ap (λ (w : Option (K × V)). before ++ values_in less (onto w (collected (entry_of cells) s.after)) k) s.holds
       ∙ ap (λ (b : Bool). before ++ cond b (s.entry.1 ∷ values_in less (collected (entry_of cells) s.after) k) (values_in less (collected (entry_of cells) s.after) k)) t
 
-  pub stands_within : (x : ℕ) → target n p.link ≡ Some x → rank < length (sequence less (held less (entries_in n cells)) k)
+  pub stands_within : (x : ℕ) → target n p.link.0 ≡ Some x → rank < length (sequence less (held less (entries_in n cells)) k)
   stands_within x e =
       let s = standing x e in
       let before = values_in less (collected (entry_of cells) at.found.before) k in
       let q = ap length (sequence-at x s) ∙ length-append before (s.entry.1 ∷ values_in less (collected (entry_of cells) s.after) k) in
       omega (arith, q, s.counted)
 
-  pub value_there : (x : ℕ) (v : V) → target n p.link ≡ Some x → ((e : K × V) → entry_of cells x ≡ Some e → v ≡ e.1) → Some v ≡ slice_get (sequence less (held less (entries_in n cells)) k) rank
-  value_there x v e is =
+  pub value_there : n ≤ length cells → (x : ℕ) (d : Cell K V) → target n p.link.0 ≡ Some x → Some (get_or cells x d).value ≡ slice_get (sequence less (held less (entries_in n cells)) k) rank
+  value_there fits x d e =
       let s = standing x e in
       let before = values_in less (collected (entry_of cells) at.found.before) k in
-      ap Some (is s.entry s.holds)
-      ∙ sym (ap (λ (vs : List V). slice_get vs rank) (sequence-at x s) ∙ nth_at before s.entry.1 (values_in less (collected (entry_of cells) s.after) k) rank s.counted)
+      let l = target_in n p.link.0 x e in
+      let q : Some ((get_or cells x d).key, (get_or cells x d).value) ≡ Some s.entry = sym (ap entry_in (slice_get-get_or cells x d (omega arith))) ∙ s.holds in
+      let w : (get_or cells x d).value ≡ s.entry.1 = cc in
+      ap Some w ∙ sym (ap (λ (vs : List V). slice_get vs rank) (sequence-at x s) ∙ nth_at before s.entry.1 (values_in less (collected (entry_of cells) s.after) k) rank s.counted)
     where
       nth_at : (vs : List V) (w : V) (ws : List V) (i : ℕ) → length vs ≡ i → slice_get (vs ++ w ∷ ws) i ≡ Some w
       nth_at [] w ws zero h = refl
@@ -152,13 +156,13 @@ module _ {K V : Type 0} {less : K → K → Bool} (o : StrictOrder less) (hash :
       nth_at (u ∷ vs) w ws zero h = absurd (omega arith)
       nth_at (u ∷ vs) w ws (suc i) h = nth_at vs w ws i (omega arith)
 
-  pub value_none : target n p.link ≡ None → None ≡ slice_get (sequence less (held less (entries_in n cells)) k) rank
+  pub value_none : target n p.link.0 ≡ None → None ≡ slice_get (sequence less (held less (entries_in n cells)) k) rank
   value_none e = let q = at_end e in sym (slice_get_past (sequence less (held less (entries_in n cells)) k) rank (omega (arith, at.found.most)))
 
   -- a search for a rank that no sequence reaches passes the whole sequence
-  pub passes_all : (free : Option ℕ) → WellFormed n cells free → n ≤ length cells → n ≤ rank → (here : Option ℕ) → target n p.link ≡ here → p.passed ≡ length (sequence less (held less (entries_in n cells)) k)
-  passes_all free good fits far None e = sym (at_end e)
-  passes_all free good fits far (Some x) e =
+  pub passes_all : n ≤ rank → (here : Option ℕ) → target n p.link.0 ≡ here → p.passed ≡ length (sequence less (held less (entries_in n cells)) k)
+  passes_all far None e = sym (at_end e)
+  passes_all far (Some x) e =
       let s = standing x e in
       let before = at.found.before in
       let m = values-most less (collected (entry_of cells) before) k in
@@ -200,7 +204,7 @@ module _ {K V : Type 0} {less : K → K → Bool} (o : StrictOrder less) (hash :
       home = at.home (omega arith)
 
       pub put_does : (v : V) (free' : ℕ) → target n free ≡ Some x → rank ≤ p.passed → target n free' ≡ next_of n cells x
-          → (((y : ℕ) → p.previous ≡ Some y → y ≢ x) → Relinked n cells cells' p.bucket p.previous x (target n p.link) (k, v) (Some x))
+          → (((y : ℕ) → p.previous ≡ Some y → y ≢ x) → Relinked n cells cells' p.bucket p.previous x (target n p.link.0) (k, v) (Some x))
           → ValidCells hash n cells' free' × ((Ok tt, state_of less (entries_in n cells') n) ≡ put_outcome less (state_of less (entries_in n cells) n) k rank v)
       put_does v free' is h next linked =
           let good' : WellFormed n cells (Some x) = subst (λ (t : Option ℕ). WellFormed n cells t) is good in
@@ -210,33 +214,25 @@ module _ {K V : Type 0} {less : K → K → Bool} (o : StrictOrder less) (hash :
           let d : List (K × V) = collected (entry_of cells) f.before in
           let r : List (K × V) = collected (entry_of cells) f.rest in
           let apart = put_apart n cells cells' b x p.previous (k, v) f.before f.rest fl.0 f.last good' fl.1 in_room f.parts in
-          let made : Relinked n cells cells' b p.previous x (front f.rest) (k, v) (Some x) =
+          let relinked : Relinked n cells cells' b p.previous x (front f.rest) (k, v) (Some x) =
           subst (λ (t : Option ℕ). Relinked n cells cells' b p.previous x t (k, v) (Some x)) f.at (linked apart) in
+          let made : Changed n cells cells' (target n free') b (d ++ (k, v) ∷ r) =
+          subst (λ (t : Option ℕ). Changed n cells cells' t b (d ++ (k, v) ∷ r)) (sym next) (put_change n cells cells' b x p.previous (k, v) f.before f.rest fl.0 f.last good' fl.1 in_room f.parts relinked) in
           let was : bucket_entries n cells b ≡ d ++ r = ap (collected (entry_of cells)) f.parts ∙ collected-append (entry_of cells) f.before f.rest in
-          let now = put_entries n cells cells' b x p.previous (k, v) f.before f.rest fl.0 f.last good' fl.1 in_room f.parts made in
-          let others = put_others n cells cells' b x p.previous (k, v) f.before f.rest fl.0 f.last good' fl.1 in_room f.parts made in
-          let counted : length (values_in less d k) ≡ rank = omega (arith, f.count, f.most) in
           let P : K × V → Type 0 = λ e. hash e.0 % n ≡ b in
           let old : AllByRecursion P (d ++ r) = subst (AllByRecursion P) was (placed b in_room) in
           let u = contents-used o (λ e. e.0) (λ e. e.1) (entries_in n cells) in
           let l = room_left n cells fits (Some x) good' in (
-            (
-              subst (λ (t : Option ℕ). WellFormed n cells' t) (sym next) (put_good n cells cells' b x p.previous (k, v) f.before f.rest fl.0 f.last good' fl.1 in_room f.parts made),
-              placed_after o hash n cells k b placed in_room home cells' others (subst (AllByRecursion P) (sym now) (All-append P d ((k, v) ∷ r) (all_left P d r old) (sym home, all_right P d r old))),
-            ),
+            valid_after o hash n cells k b placed in_room home cells' free' _ made (All-append P d ((k, v) ∷ r) (all_left P d r old) (sym home, all_right P d r old)),
             put_done less (state_of less (entries_in n cells) n) k rank v _ (not_past h) (omega (arith, u, l, ap length fl.1))
-                (changed (entries_in n cells) (entries_in n cells') _ (put_contents o hash n cells k b placed in_room home cells' d r rank counted others v was now)),
+                (changed (entries_in n cells) (entries_in n cells') _ (contents_after o hash n cells k b placed in_room home cells' (target n free') d [] ((k, v) ∷ []) r was made
+                (λ c. with_sequence less c k (insert (sequence less c k) rank v))
+                (λ pre post q. entry_put o (λ e. e.0) (λ e. e.1) pre (k, v) post k rank refl (omega (arith, q, f.count, f.most))))),
           )
 
-      module _ (link : target n p.link ≡ Some x) where
+      module _ (link : target n p.link.0 ≡ Some x) where
         s : Standing x
         s = standing x link
-
-        d : List (K × V)
-        d = collected (entry_of cells) at.found.before
-
-        r : List (K × V)
-        r = collected (entry_of cells) s.after
 
         was : bucket_entries n cells p.bucket ≡ collected (entry_of cells) at.found.before ++ s.entry ∷ collected (entry_of cells) s.after
         was =
@@ -247,23 +243,22 @@ module _ {K V : Type 0} {less : K → K → Bool} (o : StrictOrder less) (hash :
         old = subst (AllByRecursion (λ e. hash e.0 % n ≡ p.bucket)) was (placed p.bucket in_room)
 
         pub take_does : ((e : K × V) → entry_of cells x ≡ Some e → ((y : ℕ) → p.previous ≡ Some y → y ≢ x) → Relinked n cells cells' p.bucket p.previous x (target n free) e (next_of n cells x))
-            → ValidCells hash n cells' p.link × ((true, state_of less (entries_in n cells') n) ≡ take_outcome less (state_of less (entries_in n cells) n) k rank)
+            → ValidCells hash n cells' p.link.0 × ((true, state_of less (entries_in n cells') n) ≡ take_outcome less (state_of less (entries_in n cells) n) k rank)
         take_does linked =
             let f = at.found in
             let b = p.bucket in
             let e = s.entry in
-            let before = collected (entry_of cells) f.before in
-            let after = collected (entry_of cells) s.after in
-            let made = linked e s.holds (take_apart n cells cells' b x p.previous (target n free) e f.before s.after f.last good in_room s.parts) in
-            let now = take-entries n cells cells' b x p.previous (target n free) e f.before s.after f.last good in_room s.parts made in
-            let others = take-others n cells cells' b x p.previous (target n free) e f.before s.after f.last good in_room s.parts made in
+            let d : List (K × V) = collected (entry_of cells) f.before in
+            let r : List (K × V) = collected (entry_of cells) s.after in
+            let made : Changed n cells cells' (target n p.link.0) b (d ++ r) =
+            subst (λ (t : Option ℕ). Changed n cells cells' t b (d ++ r)) (sym link) (take_change n cells cells' b x p.previous (target n free) e f.before s.after f.last good in_room s.parts
+            (linked e s.holds (take_apart n cells cells' b x p.previous (target n free) e f.before s.after f.last good in_room s.parts))) in
             let P : K × V → Type 0 = λ e. hash e.0 % n ≡ b in (
-              (
-                subst (λ (t : Option ℕ). WellFormed n cells' t) (sym link) (take_good n cells cells' b x p.previous (target n free) e f.before s.after f.last good in_room s.parts made),
-                placed_after o hash n cells k b placed in_room home cells' others (subst (AllByRecursion P) (sym now) (All-append P before after (all_left P before (e ∷ after) old) (all_right P before (e ∷ after) old).1)),
-              ),
+              valid_after o hash n cells k b placed in_room home cells' p.link.0 _ made (All-append P d r (all_left P d (e ∷ r) old) (all_right P d (e ∷ r) old).1),
               take_done less (state_of less (entries_in n cells) n) k rank _ (stands_within x link)
-                  (changed (entries_in n cells) (entries_in n cells') _ (take-contents o hash n cells k b placed in_room home cells' before after rank s.counted others e s.key was now)),
+                  (changed (entries_in n cells) (entries_in n cells') _ (contents_after o hash n cells k b placed in_room home cells' (target n p.link.0) d (e ∷ []) [] r was made
+                  (λ c. with_sequence less c k (remove (sequence less c k) rank))
+                  (λ pre post q. entry-taken o (λ e. e.0) (λ e. e.1) pre e post k rank s.key (q ∙ s.counted)))),
             )
 
         pub set_does : (v : V) → ((e : K × V) → entry_of cells x ≡ Some e → Rewritten n cells cells' x (e.0, v))
@@ -272,31 +267,56 @@ module _ {K V : Type 0} {less : K → K → Bool} (o : StrictOrder less) (hash :
             let f = at.found in
             let b = p.bucket in
             let e = s.entry in
-            let before = collected (entry_of cells) f.before in
-            let after = collected (entry_of cells) s.after in
-            let made = written e s.holds in
-            let now = set-entries n cells cells' b x p.previous (target n free) (e.0, v) f.before s.after f.last good in_room s.parts made in
-            let others = set-others n cells cells' b x p.previous (target n free) (e.0, v) f.before s.after f.last good in_room s.parts made in
+            let d : List (K × V) = collected (entry_of cells) f.before in
+            let r : List (K × V) = collected (entry_of cells) s.after in
+            let made = set_change n cells cells' b x p.previous (target n free) (e.0, v) f.before s.after f.last good in_room s.parts (written e s.holds) in
             let P : K × V → Type 0 = λ e. hash e.0 % n ≡ b in (
-              (
-                set_good n cells cells' b x p.previous (target n free) (e.0, v) f.before s.after f.last good in_room s.parts made,
-                placed_after o hash n cells k b placed in_room home cells' others (subst (AllByRecursion P) (sym now) (All-append P before ((e.0, v) ∷ after) (all_left P before (e ∷ after) old) ((all_right P before (e ∷ after) old).0, (all_right P before (e ∷ after) old).1))),
-              ),
+              valid_after o hash n cells k b placed in_room home cells' free _ made (All-append P d ((e.0, v) ∷ r) (all_left P d (e ∷ r) old) (all_right P d (e ∷ r) old)),
               set_done less (state_of less (entries_in n cells) n) k rank v _ (stands_within x link)
-                  (changed (entries_in n cells) (entries_in n cells') _ (set-contents o hash n cells k b placed in_room home cells' before after rank s.counted others e v s.key was now)),
+                  (changed (entries_in n cells) (entries_in n cells') _ (contents_after o hash n cells k b placed in_room home cells' (target n free) d (e ∷ []) ((e.0, v) ∷ []) r was made
+                  (λ c. with_sequence less c k (set (sequence less c k) rank v))
+                  (λ pre post q. entry_set o (λ e. e.0) (λ e. e.1) pre e (e.0, v) post k rank s.key s.key (q ∙ s.counted)))),
             )
 
--- ---- the place that a search found
+-- ---- what the calls leave in the lent cells
 
-pub place_of : {K V : Type 0} (less : K → K → Bool) (hash : K → ℕ) (cells : List (Cell K V)) (n m b : ℕ) (k : K) (rank : ℕ) (p : Place) (free : Option ℕ)
-    → m ≡ n → b ≡ hash k % m → b < m → p.bucket ≡ b
-    → (Linked (next_of m cells) (first_of m cells b) (bucket_of m cells b) → Found less cells (bucket_of m cells b) k rank p.previous (target m p.link) p.passed)
-    → WellFormed n cells free → PlaceOf less hash n cells k rank p
-place_of less hash cells n m b k rank p free e home lt is found good =
-    let lb : b < n = omega arith in
-    let F : ℕ → ℕ → Type 0 = λ i c. Found less cells (bucket_of i cells c) k rank p.previous (target i p.link) p.passed in
-    let L : ℕ → Type 0 = λ i. Linked (next_of i cells) (first_of i cells b) (bucket_of i cells b) in
-    record {
-      home = λ _. is ∙ home ∙ ap (λ (i : ℕ). hash k % i) e;
-      found = subst (λ (i : ℕ). F i p.bucket) e (subst (λ (c : ℕ). F m c) (sym is) (found (subst L (sym e) (good.buckets b lb).linked)));
-    }
+module _ {K V : Type 0} {less : K → K → Bool} (o : StrictOrder less) (hash : K → ℕ) (old : List (Cell K V)) (r : ℕ) (is : r ≡ room_of old) (k : K) (rank : ℕ) (p : Place)
+    (range : InRange (room_of old) p) (at : PlaceOf less hash (room_of old) (used_of old) k rank p) (free : ℕ) (v : ValidCells hash (room_of old) (used_of old) free) (x : ℕ) where
+  -- a number that leads to a cell leads to it in the room
+  leads : (l : ℕ) → target r l ≡ Some x → target (room_of old) l ≡ Some x
+  leads l e = subst (λ (n : ℕ). target n l ≡ Some x) is e
+
+  module _ (xs : List (Cell K V)) (same : length xs ≡ length (take r old)) where
+    pub put_leaves : (w : V) (free' : ℕ) → target r free ≡ Some x → rank ≤ p.passed → target (length (take r old)) free' ≡ next_of (length (take r old)) (take r old) x
+        → (((y : ℕ) → p.previous ≡ Some y → y ≢ x) → Relinked (length (take r old)) (take r old) xs p.bucket p.previous x (target (length (take r old)) p.link.0) (k, w) (Some x))
+        → ValidCells hash (room_of (xs ++ drop r old)) (used_of (xs ++ drop r old)) free'
+        × ((Ok tt, state_of less (entries_in (room_of (xs ++ drop r old)) (used_of (xs ++ drop r old))) (room_of (xs ++ drop r old))) ≡ put_outcome less (state_of less (entries_in (room_of old) (used_of old)) (room_of old)) k rank w)
+    put_leaves w free' e h next linked =
+        after old r is (λ (n : ℕ) (cells : List (Cell K V)). ValidCells hash n cells free' × ((Ok tt, state_of less (entries_in n cells) n) ≡ put_outcome less (state_of less (entries_in (room_of old) (used_of old)) (room_of old)) k rank w)) xs same
+        (put_does o hash (room_of old) (used_of old) k rank p v.1 range at (omega (arith, part-length old (room_of old) refl)) free v.0 xs x (target_in (room_of old) free x (leads free e)) w free' (leads free e) h
+        (from_part old r is (λ (n : ℕ) (cells : List (Cell K V)). target n free' ≡ next_of n cells x) next)
+        (from_part old r is (λ (n : ℕ) (cells : List (Cell K V)). ((y : ℕ) → p.previous ≡ Some y → y ≢ x) → Relinked n cells xs p.bucket p.previous x (target n p.link.0) (k, w) (Some x)) linked))
+
+    pub take_leaves : target r p.link.0 ≡ Some x
+        → ((e : K × V) → entry_of (take r old) x ≡ Some e → ((y : ℕ) → p.previous ≡ Some y → y ≢ x)
+        → Relinked (length (take r old)) (take r old) xs p.bucket p.previous x (target (length (take r old)) free) e (next_of (length (take r old)) (take r old) x))
+        → ValidCells hash (room_of (xs ++ drop r old)) (used_of (xs ++ drop r old)) p.link.0
+        × ((true, state_of less (entries_in (room_of (xs ++ drop r old)) (used_of (xs ++ drop r old))) (room_of (xs ++ drop r old))) ≡ take_outcome less (state_of less (entries_in (room_of old) (used_of old)) (room_of old)) k rank)
+    take_leaves e linked =
+        after old r is (λ (n : ℕ) (cells : List (Cell K V)). ValidCells hash n cells p.link.0 × ((true, state_of less (entries_in n cells) n) ≡ take_outcome less (state_of less (entries_in (room_of old) (used_of old)) (room_of old)) k rank)) xs same
+        (take_does o hash (room_of old) (used_of old) k rank p v.1 range at (omega (arith, part-length old (room_of old) refl)) free v.0 xs x (target_in (room_of old) p.link.0 x (leads p.link.0 e)) (leads p.link.0 e)
+        (from_part old r is (λ (n : ℕ) (cells : List (Cell K V)). (e : K × V) → entry_of cells x ≡ Some e → ((y : ℕ) → p.previous ≡ Some y → y ≢ x) → Relinked n cells xs p.bucket p.previous x (target n free) e (next_of n cells x)) linked))
+
+  abbrev written : Cell K V → V → List (Cell K V)
+  written d w = set (take r old) x (record { key = (get_or (take r old) x d).key; value = w; first = (get_or (take r old) x d).first; next = (get_or (take r old) x d).next })
+
+  pub set_leaves : (d : Cell K V) (w : V) → target r p.link.0 ≡ Some x
+      → ValidCells hash (room_of (written d w ++ drop r old)) (used_of (written d w ++ drop r old)) free
+      × ((true, state_of less (entries_in (room_of (written d w ++ drop r old)) (used_of (written d w ++ drop r old))) (room_of (written d w ++ drop r old)))
+      ≡ set_outcome less (state_of less (entries_in (room_of old) (used_of old)) (room_of old)) k rank w)
+  set_leaves d w e =
+      let within = target_in (room_of old) p.link.0 x (leads p.link.0 e) in
+      after old r is (λ (n : ℕ) (cells : List (Cell K V)). ValidCells hash n cells free × ((true, state_of less (entries_in n cells) n) ≡ set_outcome less (state_of less (entries_in (room_of old) (used_of old)) (room_of old)) k rank w)) (written d w) (length-set (take r old) x _)
+      (set_does o hash (room_of old) (used_of old) k rank p v.1 range at (omega (arith, part-length old (room_of old) refl)) free v.0 (written d w) x within (leads p.link.0 e) w
+      (from_part old r is (λ (n : ℕ) (cells : List (Cell K V)). (e : K × V) → entry_of cells x ≡ Some e → Rewritten n cells (written d w) x (e.0, w))
+      (rewritten (length (take r old)) (take r old) x d w (omega (arith, part-length old r is, within)))))

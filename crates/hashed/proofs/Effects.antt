@@ -1,17 +1,18 @@
 -- What a change of one bucket does to the entries and to what they hold.
-use Rattle.std.proofs.Common.{◌≡◌, ℕ, zero, suc, ◌%◌, ◌<◌, Bool, true, false, ◌≢◌, List, [], ◌∷◌, ◌++◌, length, set, sym, refl, ap, ◌∙◌, subst, ⊎_elim, append_assoc, arith}
-use Rattle.std.specs.List.{insert, remove, AllByRecursion}
+use Rattle.std.proofs.Common.{◌≡◌, ℕ, zero, suc, ◌%◌, ◌<◌, Bool, true, false, ◌≢◌, List, [], ◌∷◌, ◌++◌, length, Option, sym, refl, ap, ◌∙◌, subst, ⊎_elim, append_assoc, arith}
+use Rattle.std.specs.List.{AllByRecursion}
 use Rattle.std.proofs.lemmas.List.{append-nil}
 use Rattle.std.proofs.lemmas.Bool.{cases_eq, cases_Bool}
 use Rattle.keys.specs.Order.{StrictOrder, same}
-use Rattle.chains.specs.Contents.{sequence, with_sequence}
+use Rattle.chains.specs.Contents.{sequence}
 use Rattle.chains.proofs.Orders.{same_eq}
-use Rattle.chains.proofs.Entries.{contents-sequence, entry_put, entry-taken, entry_set}
+use Rattle.chains.proofs.Entries.{contents-sequence}
 use Rattle.hashed.specs.declared.cell.Cell.{Cell}
 use Rattle.hashed.specs.Links.{collected, gathered}
-use Rattle.hashed.specs.Cells.{entry_of, bucket_of, bucket_entries, entries_in, values_in, held, Placed}
+use Rattle.hashed.specs.Cells.{target, entry_of, bucket_of, bucket_entries, entries_in, values_in, held, Placed, ValidCells}
 use Rattle.hashed.proofs.Links.{gathered-same, collected-append}
 use Rattle.hashed.proofs.Walks.{values-append}
+use Rattle.hashed.proofs.WellFormed.{Changed}
 
 -- ---- one list of those that are gathered changes
 
@@ -117,37 +118,21 @@ module _ {K V : Type 0} {less : K → K → Bool} (o : StrictOrder less) (hash :
         ∙ ap (λ (es : List (K × V)). values_in less es k) (collected-append (entry_of cells) before rest)
         ∙ values-append less (collected (entry_of cells) before) (collected (entry_of cells) rest) k
 
-    module _ (cells' : List (Cell K V)) (d r : List (K × V)) (rank : ℕ) (count : length (values_in less d k) ≡ rank)
-        (others : (c : ℕ) → c < n → c ≢ b → bucket_entries n cells' c ≡ bucket_entries n cells c) where
-      pub put_contents : (v : V) → bucket_entries n cells b ≡ d ++ r → bucket_entries n cells' b ≡ d ++ (k, v) ∷ r
-          → held less (entries_in n cells') ≡ with_sequence less (held less (entries_in n cells)) k (insert (sequence less (held less (entries_in n cells)) k) rank v)
-      put_contents v p q =
-          let a = around (bucket_entries n cells) (bucket_entries n cells') n b d [] ((k, v) ∷ []) r in_room others p q in
-          let P : List (K × V) → Type 0 = λ es. held less (entries_in n cells') ≡ with_sequence less (held less es) k (insert (sequence less (held less es) k) rank v) in
-          subst P (sym a.old) (ap (held less) a.new
-          ∙ entry_put o (λ e. e.0) (λ e. e.1) (gathered (bucket_entries n cells) b ++ d) (k, v) a.rest k rank refl (rank_before d ∙ count))
-
-      pub take-contents : (e : K × V) → e.0 ≡ k → bucket_entries n cells b ≡ d ++ e ∷ r → bucket_entries n cells' b ≡ d ++ r
-          → held less (entries_in n cells') ≡ with_sequence less (held less (entries_in n cells)) k (remove (sequence less (held less (entries_in n cells)) k) rank)
-      take-contents e key p q =
-          let a = around (bucket_entries n cells) (bucket_entries n cells') n b d (e ∷ []) [] r in_room others p q in
-          let P : List (K × V) → Type 0 = λ es. held less (entries_in n cells') ≡ with_sequence less (held less es) k (remove (sequence less (held less es) k) rank) in
-          subst P (sym a.old) (ap (held less) a.new
-          ∙ entry-taken o (λ e. e.0) (λ e. e.1) (gathered (bucket_entries n cells) b ++ d) e a.rest k rank key (rank_before d ∙ count))
-
-      pub set-contents : (e : K × V) (v : V) → e.0 ≡ k → bucket_entries n cells b ≡ d ++ e ∷ r → bucket_entries n cells' b ≡ d ++ (e.0, v) ∷ r
-          → held less (entries_in n cells') ≡ with_sequence less (held less (entries_in n cells)) k (set (sequence less (held less (entries_in n cells)) k) rank v)
-      set-contents e v key p q =
-          let a = around (bucket_entries n cells) (bucket_entries n cells') n b d (e ∷ []) ((e.0, v) ∷ []) r in_room others p q in
-          let P : List (K × V) → Type 0 = λ es. held less (entries_in n cells') ≡ with_sequence less (held less es) k (set (sequence less (held less es) k) rank v) in
-          subst P (sym a.old) (ap (held less) a.new
-          ∙ entry_set o (λ e. e.0) (λ e. e.1) (gathered (bucket_entries n cells) b ++ d) e (e.0, v) a.rest k rank key key (rank_before d ∙ count))
+    -- what is held changes as it does where the bucket's part m becomes m'
+    pub contents_after : (cells' : List (Cell K V)) (free : Option ℕ) (d m m' r : List (K × V)) → bucket_entries n cells b ≡ d ++ (m ++ r) → Changed n cells cells' free b (d ++ (m' ++ r))
+        → (f : List (K × List V) → List (K × List V))
+        → ((pre post : List (K × V)) → length (values_in less pre k) ≡ length (values_in less d k) → held less (pre ++ (m' ++ post)) ≡ f (held less (pre ++ (m ++ post))))
+        → held less (entries_in n cells') ≡ f (held less (entries_in n cells))
+    contents_after cells' free d m m' r was c f step =
+        let a = around (bucket_entries n cells) (bucket_entries n cells') n b d m m' r in_room c.others was c.entries in
+        ap (held less) a.new ∙ step (gathered (bucket_entries n cells) b ++ d) a.rest (rank_before d) ∙ ap (λ (es : List (K × V)). f (held less es)) (sym a.old)
 
     -- entries that belong into the bucket leave every entry in its place
-    pub placed_after : (cells' : List (Cell K V)) → ((c : ℕ) → c < n → c ≢ b → bucket_entries n cells' c ≡ bucket_entries n cells c)
-        → AllByRecursion (λ e. hash e.0 % n ≡ b) (bucket_entries n cells' b) → Placed hash n cells'
-    placed_after cells' others h c l =
-        ⊎_elim
-        (λ (e : c ≡ b). subst (λ (m : ℕ). AllByRecursion (λ e. hash e.0 % n ≡ m) (bucket_entries n cells' m)) (sym e) h)
-        (λ (ne : c ≢ b). subst (λ (es : List (K × V)). AllByRecursion (λ e. hash e.0 % n ≡ c) es) (sym (others c l ne)) (placed c l))
-        (cases_eq c b)
+    pub valid_after : (cells' : List (Cell K V)) (free : ℕ) (es : List (K × V)) → Changed n cells cells' (target n free) b es → AllByRecursion (λ e. hash e.0 % n ≡ b) es → ValidCells hash n cells' free
+    valid_after cells' free es made h = (
+      made.good,
+      λ c l. ⊎_elim
+          (λ (e : c ≡ b). subst (λ (m : ℕ). AllByRecursion (λ e. hash e.0 % n ≡ m) (bucket_entries n cells' m)) (sym e) (subst (AllByRecursion (λ e. hash e.0 % n ≡ b)) (sym made.entries) h))
+          (λ (ne : c ≢ b). subst (λ (fs : List (K × V)). AllByRecursion (λ e. hash e.0 % n ≡ c) fs) (sym (made.others c l ne)) (placed c l))
+          (cases_eq c b),
+    )

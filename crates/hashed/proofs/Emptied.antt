@@ -4,8 +4,9 @@ use Rattle.std.specs.List.{AllByRecursion}
 use Rattle.std.proofs.ByRecursion.{All-weaker}
 use Rattle.std.proofs.lemmas.Bool.{cases_eq}
 use Rattle.hashed.specs.declared.cell.Cell.{Cell}
+use Rattle.hashed.specs.declared.cell.Link.{Link}
 use Rattle.hashed.specs.Links.{walk, collected, gathered}
-use Rattle.hashed.specs.Cells.{target, next_in, first_in, next_of, first_of, entry_of, bucket_of, bucket_entries, entries_in, below, Emptied, OwnList, WellFormed, Placed}
+use Rattle.hashed.specs.Cells.{target, next_in, first_in, next_of, first_of, entry_of, bucket_of, bucket_entries, entries_in, below, Emptied, OwnList, ValidCells}
 use Rattle.hashed.proofs.Links.{linked-front}
 use Rattle.hashed.proofs.Writes.{target_of, target_none, set_here, set_there}
 
@@ -13,16 +14,13 @@ all-below : (m n : ℕ) → m ≤ n → AllByRecursion (λ z. z < n) (below m)
 all-below zero n h = tt
 all-below (suc m) n h = (omega arith, all-below m n (omega arith))
 
-pub emptied_none : {K V : Type 0} (n : ℕ) (cells : List (Cell K V)) → n ≤ 32768 → Emptied n cells (target n 32768) 0
-emptied_none n cells h = record { linked = target_none n 32768 h; empty = λ b l. absurd (omega arith) }
-
-pub emptied_more : {K V : Type 0} (n : ℕ) (cells : List (Cell K V)) (r : Cell K V) (free i to : ℕ) → i < length cells → i < n → n ≤ 32768 → to ≡ i → Emptied n cells (target n free) i
-    → Emptied n (set cells i (record { key = r.key; value = r.value; first = 32768; next = free })) (target n to) (i + 1)
-emptied_more {K} {V} n cells r free i to h l small e f =
-    let c : Cell K V = record { key = r.key; value = r.value; first = 32768; next = free } in
+pub emptied_more : {K V : Type 0} (n : ℕ) (cells : List (Cell K V)) (r : Cell K V) (free to : Link) (i : ℕ) → i < length cells → i < n → n ≤ 32768 → to.0 ≡ i → Emptied n cells (target n free.0) i
+    → Emptied n (set cells i (record { key = r.key; value = r.value; first = record { 0 = 32768 }; next = free })) (target n to.0) (i + 1)
+emptied_more {K} {V} n cells r free to i h l small e f =
+    let c : Cell K V = record { key = r.key; value = r.value; first = record { 0 = 32768 }; next = free } in
     let made : Emptied n (set cells i c) (Some i) (suc i) =
     record {
-      linked = linked-front (next_of n cells) (next_of n (set cells i c)) i (target n free) (below i) f.linked
+      linked = linked-front (next_of n cells) (next_of n (set cells i c)) i (target n free.0) (below i) f.linked
           (All-weaker (λ z. z < i) (λ z. z ≢ i) (λ z q w. absurd (omega arith)) (below i) (all-below i i (omega arith)))
           (set_here (next_in n) cells i c h)
           (λ z ne. set_there (next_in n) cells i c z ne);
@@ -31,7 +29,7 @@ emptied_more {K} {V} n cells r free i to h l small e f =
           (λ (ne : z ≢ i). set_there (first_in n) cells i c z ne ∙ f.empty z (omega arith))
           (cases_eq z i);
     } in
-    subst (λ (m : ℕ). Emptied n (set cells i c) (target n to) m) (sym (add-one i)) (subst (λ (t : Option ℕ). Emptied n (set cells i c) t (suc i)) (sym (target_of n to i e l)) made)
+    subst (λ (m : ℕ). Emptied n (set cells i c) (target n to.0) m) (sym (add-one i)) (subst (λ (t : Option ℕ). Emptied n (set cells i c) t (suc i)) (sym (target_of n to.0 i e l)) made)
 
 walk_none : (next : ℕ → Option ℕ) (n : ℕ) → walk next n None ≡ []
 walk_none next zero = refl
@@ -49,19 +47,9 @@ all_same : (n m : ℕ) → AllByRecursion (λ x. n ≡ n) (below m)
 all_same n zero = tt
 all_same n (suc m) = (refl, all_same n m)
 
-module _ {K V : Type 0} (n : ℕ) (cells : List (Cell K V)) (free : Option ℕ) (emptied : Emptied n cells free n) where
+module _ {K V : Type 0} (n : ℕ) (cells : List (Cell K V)) (free : ℕ) (emptied : Emptied n cells (target n free) n) where
   no_cells : (b : ℕ) → b < n → bucket_of n cells b ≡ []
   no_cells b h = ap (walk (next_of n cells) n) (emptied.empty b h) ∙ walk_none (next_of n cells) n
-
-  pub emptied_good : WellFormed n cells free
-  emptied_good =
-      record {
-        own = λ z. n;
-        buckets = λ b h. subst (OwnList (λ z. n) n cells b (first_of n cells b)) (sym (no_cells b h)) (record { linked = emptied.empty b h; within = tt; owned = tt });
-        unused = below n;
-        freed = record { linked = emptied.linked; within = all-below n n (omega arith); owned = all_same n n };
-        all = omega (arith, length-below n, ap length (gathered_nil (bucket_of n cells) n no_cells));
-      }
 
   no_entries : (b : ℕ) → b < n → bucket_entries n cells b ≡ []
   no_entries b h = ap (collected (entry_of cells)) (no_cells b h)
@@ -69,5 +57,14 @@ module _ {K V : Type 0} (n : ℕ) (cells : List (Cell K V)) (free : Option ℕ) 
   pub emptied-entries : entries_in n cells ≡ []
   emptied-entries = gathered_nil (bucket_entries n cells) n no_entries
 
-  pub emptied_placed : (hash : K → ℕ) → Placed hash n cells
-  emptied_placed hash b h = subst (AllByRecursion (λ e. hash e.0 % n ≡ b)) (sym (no_entries b h)) tt
+  pub emptied_valid : (hash : K → ℕ) → ValidCells hash n cells free
+  emptied_valid hash = (
+    record {
+      own = λ z. n;
+      buckets = λ b h. subst (OwnList (λ z. n) n cells b (first_of n cells b)) (sym (no_cells b h)) (record { linked = emptied.empty b h; within = tt; owned = tt });
+      unused = below n;
+      freed = record { linked = emptied.linked; within = all-below n n (omega arith); owned = all_same n n };
+      all = omega (arith, length-below n, ap length (gathered_nil (bucket_of n cells) n no_cells));
+    },
+    λ b h. subst (AllByRecursion (λ e. hash e.0 % n ≡ b)) (sym (no_entries b h)) tt,
+  )

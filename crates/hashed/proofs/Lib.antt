@@ -4,4 +4,6 @@ pub mod Walks
 pub mod Emptied
 pub mod WellFormed
 pub mod Effects
+pub mod Used
+pub mod Sets
 pub mod Calls

@@ -1,5 +1,6 @@
 -- Laws of lists that are threaded through cells.
 use Rattle.std.proofs.Common.{◌≡◌, ℕ, zero, suc, ◌+◌, ◌<◌, ◌≤◌, ◌≢◌, List, [], ◌∷◌, ◌++◌, length, Some, None, Option, sym, refl, ap, ◌∙◌, ⊎_elim, arith, length-append}
+use Rattle.std.proofs.Props.{props}
 use Rattle.std.specs.List.{AllByRecursion}
 use Rattle.std.proofs.ByRecursion.{All-append, All-weaker}
 use Rattle.std.proofs.lemmas.Bool.{cases_eq}
@@ -18,6 +19,11 @@ all_right P (x ∷ xs) ys h = all_right P xs ys h.1
 pub all_both : {X : Type 0} (P Q R : X → Type 0) → ((x : X) → P x → Q x → R x) → (xs : List X) → AllByRecursion P xs → AllByRecursion Q xs → AllByRecursion R xs
 all_both P Q R f [] p q = tt
 all_both P Q R f (x ∷ xs) p q = (f x p.0 q.0, all_both P Q R f xs p.1 q.1)
+
+-- that links lead through a list has one proof at most
+pub Linked-prop : (next : ℕ → Option ℕ) (l : Option ℕ) (xs : List ℕ) → IsProp (Linked next l xs)
+Linked-prop next l [] = hlevel props
+Linked-prop next l (x ∷ xs) = hlevel (Linked-prop next (next x) xs, props)
 
 -- ---- what a walk gives
 pub walk-linked : (next : ℕ → Option ℕ) (f : ℕ) (l : Option ℕ) (xs : List ℕ) → Linked next l xs → length xs ≤ f → walk next f l ≡ xs

@@ -11,6 +11,12 @@ use Rattle.hashed.proofs.Links.{all_left, all_right, all_both, walk-linked, walk
 
 -- ---- one bucket and the free cells change
 
+-- the lists are in order again, and bucket b holds es
+pub record Changed {K V : Type 0} (n : ℕ) (cells cells' : List (Cell K V)) (free : Option ℕ) (b : ℕ) (es : List (K × V)) : Type 0 where
+  pub good : WellFormed n cells' free
+  pub others : (c : ℕ) → c < n → c ≢ b → bucket_entries n cells' c ≡ bucket_entries n cells c
+  pub entries : bucket_entries n cells' b ≡ es
+
 -- what stays of a cell
 record Stays {K V : Type 0} (n : ℕ) (own own' : ℕ → ℕ) (cells cells' : List (Cell K V)) (z : ℕ) : Type 0 where
   next : next_of n cells' z ≡ next_of n cells z
@@ -75,6 +81,10 @@ module _ {K V : Type 0} (n : ℕ) (own' : ℕ → ℕ) (cells cells' : List (Cel
         freed = lz;
         all = omega (arith, g, ap length bucket_new, good.all, size);
       }
+
+  changed : (zs : List ℕ) → OwnList own' n cells' n free' zs → length zs + length ys ≡ length good.unused + length (bucket_of n cells b)
+      → (es : List (K × V)) → collected (entry_of cells') ys ≡ es → Changed n cells cells' free' b es
+  changed zs lz size es now = record { good = good_change zs lz size; others = entries_other; entries = ap (collected (entry_of cells')) bucket_new ∙ now }
 
 -- ---- one cell gets another owner
 
@@ -205,27 +215,17 @@ module _ {K V : Type 0} (n : ℕ) (cells cells' : List (Cell K V)) (b x : ℕ) (
         let m = gathered-most (bucket_of n cells) n b in_room in
         omega (arith, m, ap length parts, length-append before rest, length-append before (x ∷ rest), ap length unused, good.all)
 
-    put_firsts : (c : ℕ) → c ≢ b → first_of n cells' c ≡ first_of n cells c
-    put_firsts = firsts-from n cells cells' b x previous (Some x) linked.links
-
-    pub put_good : WellFormed n cells' (next_of n cells x)
-    put_good =
-        good_change n (given_to good.own x b) cells cells' (Some x) (next_of n cells x) good b in_room put_firsts put_kept
-        (before ++ x ∷ rest) put_list put_few fs free_left
-        (omega (arith, ap length parts, length-append before rest, length-append before (x ∷ rest), ap length unused))
-
-    pub put_others : (c : ℕ) → c < n → c ≢ b → bucket_entries n cells' c ≡ bucket_entries n cells c
-    put_others = entries_other n (given_to good.own x b) cells cells' (Some x) (next_of n cells x) good b in_room put_firsts put_kept (before ++ x ∷ rest) put_list put_few
-
-    pub put_entries : bucket_entries n cells' b ≡ collected (entry_of cells) before ++ e ∷ collected (entry_of cells) rest
-    put_entries =
+    pub put_change : Changed n cells cells' (next_of n cells x) b (collected (entry_of cells) before ++ e ∷ collected (entry_of cells) rest)
+    put_change =
         let S : ℕ → Type 0 = λ z. entry_of cells' z ≡ entry_of cells z in
         let s : AllByRecursion S (before ++ rest) = All-weaker (λ z. z ≢ x) S linked.elsewhere (before ++ rest) out in
-        ap (collected (entry_of cells')) (bucket_new n (given_to good.own x b) cells cells' (Some x) (next_of n cells x) good b in_room put_firsts put_kept (before ++ x ∷ rest) put_list put_few)
-        ∙ collected-append (entry_of cells') before (x ∷ rest)
+        changed n (given_to good.own x b) cells cells' (Some x) (next_of n cells x) good b in_room (firsts-from n cells cells' b x previous (Some x) linked.links) put_kept
+        (before ++ x ∷ rest) put_list put_few fs free_left
+        (omega (arith, ap length parts, length-append before rest, length-append before (x ∷ rest), ap length unused)) _
+        (collected-append (entry_of cells') before (x ∷ rest)
         ∙ ap (λ t. t ++ collected (entry_of cells') (x ∷ rest)) (collected_frame (entry_of cells) (entry_of cells') before (all_left S before rest s))
         ∙ ap (λ t. collected (entry_of cells) before ++ onto t (collected (entry_of cells') rest)) linked.here
-        ∙ ap (λ t. collected (entry_of cells) before ++ e ∷ t) (collected_frame (entry_of cells) (entry_of cells') rest (all_right S before rest s))
+        ∙ ap (λ t. collected (entry_of cells) before ++ e ∷ t) (collected_frame (entry_of cells) (entry_of cells') rest (all_right S before rest s)))
 
 -- ---- a cell goes out
 
@@ -295,23 +295,13 @@ module _ {K V : Type 0} (n : ℕ) (cells cells' : List (Cell K V)) (b x : ℕ) (
         let m = walk-length (next_of n cells) n (first_of n cells b) in
         omega (arith, m, ap length parts, length-append before (x ∷ rest), length-append before rest)
 
-    take-firsts : (c : ℕ) → c ≢ b → first_of n cells' c ≡ first_of n cells c
-    take-firsts = firsts-from n cells cells' b x previous (next_of n cells x) linked.links
-
-    pub take_good : WellFormed n cells' (Some x)
-    take_good =
-        good_change n (given_to good.own x n) cells cells' free (Some x) good b in_room take-firsts (λ z p q. take_stays z p)
+    pub take_change : Changed n cells cells' (Some x) b (collected (entry_of cells) before ++ collected (entry_of cells) rest)
+    take_change =
+        changed n (given_to good.own x n) cells cells' free (Some x) good b in_room (firsts-from n cells cells' b x previous (next_of n cells x) linked.links) (λ z p q. take_stays z p)
         (before ++ rest) take_list take_few (x ∷ good.unused) free_more
-        (omega (arith, ap length parts, length-append before rest, length-append before (x ∷ rest)))
-
-    pub take-others : (c : ℕ) → c < n → c ≢ b → bucket_entries n cells' c ≡ bucket_entries n cells c
-    take-others = entries_other n (given_to good.own x n) cells cells' free (Some x) good b in_room take-firsts (λ z p q. take_stays z p) (before ++ rest) take_list take_few
-
-    pub take-entries : bucket_entries n cells' b ≡ collected (entry_of cells) before ++ collected (entry_of cells) rest
-    take-entries =
-        ap (collected (entry_of cells')) (bucket_new n (given_to good.own x n) cells cells' free (Some x) good b in_room take-firsts (λ z p q. take_stays z p) (before ++ rest) take_list take_few)
-        ∙ collected_frame (entry_of cells) (entry_of cells') (before ++ rest) (All-weaker (λ z. z ≢ x) (λ z. entry_of cells' z ≡ entry_of cells z) linked.elsewhere (before ++ rest) clear)
-        ∙ collected-append (entry_of cells) before rest
+        (omega (arith, ap length parts, length-append before rest, length-append before (x ∷ rest))) _
+        (collected_frame (entry_of cells) (entry_of cells') (before ++ rest) (All-weaker (λ z. z ≢ x) (λ z. entry_of cells' z ≡ entry_of cells z) linked.elsewhere (before ++ rest) clear)
+        ∙ collected-append (entry_of cells) before rest)
 
   -- ---- a cell gets another entry
 
@@ -328,30 +318,26 @@ module _ {K V : Type 0} (n : ℕ) (cells cells' : List (Cell K V)) (b x : ℕ) (
           owned = list.owned;
         }
 
-    pub set_good : WellFormed n cells' free
-    set_good =
+    pub set_change : Changed n cells cells' free b (collected (entry_of cells) before ++ e ∷ collected (entry_of cells) rest)
+    set_change =
         let q = ap (λ (f : ℕ → List ℕ). length (gathered f n)) (fun_ext same-bucket) in
-        record {
-          own = good.own;
-          buckets = λ c h. subst (λ l. OwnList good.own n cells' c l (bucket_of n cells' c)) (sym (written.firsts c))
-              (subst (OwnList good.own n cells' c (first_of n cells c)) (sym (same-bucket c)) (same_list c (first_of n cells c) (bucket_of n cells c) (good.buckets c h)));
-          unused = good.unused;
-          freed = same_list n free good.unused good.freed;
-          all = omega (arith, q, good.all);
-        }
-
-    pub set-others : (c : ℕ) → c < n → c ≢ b → bucket_entries n cells' c ≡ bucket_entries n cells c
-    set-others c h ne =
-        ap (collected (entry_of cells')) (same-bucket c)
-        ∙ collected_frame (entry_of cells) (entry_of cells') (bucket_of n cells c)
-        (All-weaker (λ z. good.own z ≡ c) (λ z. entry_of cells' z ≡ entry_of cells z) (λ z q. written.elsewhere z (λ w. ne (sym q ∙ ap good.own w ∙ x_own))) (bucket_of n cells c) (good.buckets c h).owned)
-
-    pub set-entries : bucket_entries n cells' b ≡ collected (entry_of cells) before ++ e ∷ collected (entry_of cells) rest
-    set-entries =
         let S : ℕ → Type 0 = λ z. entry_of cells' z ≡ entry_of cells z in
         let s : AllByRecursion S (before ++ rest) = All-weaker (λ z. z ≢ x) S written.elsewhere (before ++ rest) clear in
-        ap (collected (entry_of cells')) (same-bucket b ∙ parts)
-        ∙ collected-append (entry_of cells') before (x ∷ rest)
-        ∙ ap (λ t. t ++ collected (entry_of cells') (x ∷ rest)) (collected_frame (entry_of cells) (entry_of cells') before (all_left S before rest s))
-        ∙ ap (λ t. collected (entry_of cells) before ++ onto t (collected (entry_of cells') rest)) written.here
-        ∙ ap (λ t. collected (entry_of cells) before ++ e ∷ t) (collected_frame (entry_of cells) (entry_of cells') rest (all_right S before rest s))
+        record {
+          good = record {
+            own = good.own;
+            buckets = λ c h. subst (λ l. OwnList good.own n cells' c l (bucket_of n cells' c)) (sym (written.firsts c))
+                (subst (OwnList good.own n cells' c (first_of n cells c)) (sym (same-bucket c)) (same_list c (first_of n cells c) (bucket_of n cells c) (good.buckets c h)));
+            unused = good.unused;
+            freed = same_list n free good.unused good.freed;
+            all = omega (arith, q, good.all);
+          };
+          others = λ c h ne. ap (collected (entry_of cells')) (same-bucket c)
+              ∙ collected_frame (entry_of cells) (entry_of cells') (bucket_of n cells c)
+              (All-weaker (λ z. good.own z ≡ c) S (λ z q. written.elsewhere z (λ w. ne (sym q ∙ ap good.own w ∙ x_own))) (bucket_of n cells c) (good.buckets c h).owned);
+          entries = ap (collected (entry_of cells')) (same-bucket b ∙ parts)
+              ∙ collected-append (entry_of cells') before (x ∷ rest)
+              ∙ ap (λ t. t ++ collected (entry_of cells') (x ∷ rest)) (collected_frame (entry_of cells) (entry_of cells') before (all_left S before rest s))
+              ∙ ap (λ t. collected (entry_of cells) before ++ onto t (collected (entry_of cells') rest)) written.here
+              ∙ ap (λ t. collected (entry_of cells) before ++ e ∷ t) (collected_frame (entry_of cells) (entry_of cells') rest (all_right S before rest s));
+        }

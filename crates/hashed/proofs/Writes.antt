@@ -1,10 +1,10 @@
 -- What is read from a cell, and what writes of cells leave.
-use Rattle.std.proofs.Common.{◌≡◌, ℕ, zero, suc, ◌<◌, ◌≤◌, true, false, cond, ltb, ◌≢◌, List, [], ◌∷◌, length, get_or, drop, set, Some, None, Option, sym, refl, ap, ◌∙◌, subst, ⊎_elim, arith, length-set}
+use Rattle.std.proofs.Common.{◌≡◌, ℕ, zero, suc, ◌<◌, ◌≤◌, true, false, cond, ltb, ◌≢◌, List, [], ◌∷◌, length, get_or, set, Some, None, Option, sym, refl, ap, ◌∙◌, subst, ⊎_elim, arith, length-set}
 use Rattle.std.specs.List.{slice_get}
-use Rattle.std.proofs.lemmas.List.{drop-set-lt}
 use Rattle.std.proofs.lemmas.Option.{slice_get-get_or}
 use Rattle.std.proofs.lemmas.Bool.{cases_eq, cases_Bool, ltb-true, lt-ltb, le-ltb}
 use Rattle.hashed.specs.declared.cell.Cell.{Cell}
+use Rattle.hashed.specs.declared.cell.Link.{Link}
 use Rattle.hashed.specs.Cells.{target, next_in, first_in, entry_in, next_of, first_of, entry_of, Relinked, Rewritten}
 
 -- ---- links
@@ -28,10 +28,10 @@ module _ {K V : Type 0} (n : ℕ) (cells : List (Cell K V)) (x : ℕ) (r : Cell 
   read_nth : slice_get cells x ≡ Some r
   read_nth = slice_get-get_or cells x r h ∙ ap Some (sym is)
 
-  pub read_next : next_of n cells x ≡ target n r.next
+  pub read_next : next_of n cells x ≡ target n r.next.0
   read_next = ap (next_in n) read_nth
 
-  pub read_first : first_of n cells x ≡ target n r.first
+  pub read_first : first_of n cells x ≡ target n r.first.0
   read_first = ap (first_in n) read_nth
 
   pub read_entry : entry_of cells x ≡ Some (r.key, r.value)
@@ -68,18 +68,18 @@ set_keeps f xs i c d h e z =
 
 -- ---- the cell x, and the link to a place
 
-module _ {K V : Type 0} (n : ℕ) (cells : List (Cell K V)) (b x : ℕ) (cell d : Cell K V) (to : ℕ) (hx : x < length cells)
+module _ {K V : Type 0} (n : ℕ) (cells : List (Cell K V)) (b x : ℕ) (cell d : Cell K V) (to : Link) (hx : x < length cells)
     (first : (e : Cell K V) → cell.first ≡ (get_or cells x e).first) where
   abbrev one : List (Cell K V)
   one = set cells x cell
 
   firsts : (z : ℕ) → first_of n one z ≡ first_of n cells z
-  firsts z = set_keeps (first_in n) cells x cell d hx (ap (target n) (first d)) z
+  firsts z = set_keeps (first_in n) cells x cell d hx (ap (λ (l : Link). target n l.0) (first d)) z
 
   abbrev with_first : List (Cell K V)
   with_first = set one b (record { key = (get_or one b d).key; value = (get_or one b d).value; first = to; next = (get_or one b d).next })
 
-  pub relinked_first : b < length cells → Relinked n cells with_first b None x (target n cell.next) (cell.key, cell.value) (target n to)
+  pub relinked_first : b < length cells → Relinked n cells with_first b None x (target n cell.next.0) (cell.key, cell.value) (target n to.0)
   relinked_first hb =
       let h : b < length one = simp length-set hb in
       record {
@@ -96,7 +96,7 @@ module _ {K V : Type 0} (n : ℕ) (cells : List (Cell K V)) (b x : ℕ) (cell d 
   abbrev with_next : ℕ → List (Cell K V)
   with_next y = set one y (record { key = (get_or one y d).key; value = (get_or one y d).value; first = (get_or one y d).first; next = to })
 
-  pub relinked_next : (y : ℕ) → y < length cells → y ≢ x → Relinked n cells (with_next y) b (Some y) x (target n cell.next) (cell.key, cell.value) (target n to)
+  pub relinked_next : (y : ℕ) → y < length cells → y ≢ x → Relinked n cells (with_next y) b (Some y) x (target n cell.next.0) (cell.key, cell.value) (target n to.0)
   relinked_next y hy ny =
       let h : y < length one = simp length-set hy in
       record {
@@ -109,9 +109,6 @@ module _ {K V : Type 0} (n : ℕ) (cells : List (Cell K V)) (b x : ℕ) (cell d 
           λ z ne nz. set_there (next_in n) one y _ z nz ∙ set_there (next_in n) cells x cell z ne,
         );
       }
-
-  pub past_both : (y : ℕ) (c : Cell K V) → x < n → y < n → drop n (set one y c) ≡ drop n cells
-  past_both y c lx ly = drop-set-lt n one y c ly ∙ drop-set-lt n cells x cell lx
 
 -- another value in the cell x
 pub rewritten : {K V : Type 0} (n : ℕ) (cells : List (Cell K V)) (x : ℕ) (d : Cell K V) (v : V) → x < length cells → (e : K × V) → entry_of cells x ≡ Some e

@@ -1,5 +1,5 @@
 -- What n cells hold: a list for each bucket and a list of the free cells, all threaded through the cells.
-use Rattle.std.specs.Prelude.{◌≡◌, ℕ, zero, suc, ◌+◌, ◌%◌, ◌<◌, ◌≤◌, Bool, true, cond, ◌≢◌, List, [], ◌∷◌, ◌++◌, length, Some, None, Option, nat_lt}
+use Rattle.std.specs.Prelude.{◌≡◌, ℕ, zero, suc, ◌+◌, ◌%◌, ◌<◌, ◌≤◌, min, Bool, true, cond, ◌≢◌, List, [], ◌∷◌, ◌++◌, length, take, Some, None, Option, nat_lt}
 use Rattle.std.specs.List.{AllByRecursion, slice_get}
 use Rattle.keys.specs.Order.{same}
 use Rattle.chains.specs.Entries.{values_under, contents_of}
@@ -12,11 +12,11 @@ target n l = cond (nat_lt l n) (Some l) None
 
 abbrev pub next_in : {K V : Type 0} → ℕ → Option (Cell K V) → Option ℕ
 next_in n None = None
-next_in n (Some c) = target n c.next
+next_in n (Some c) = target n c.next.0
 
 abbrev pub first_in : {K V : Type 0} → ℕ → Option (Cell K V) → Option ℕ
 first_in n None = None
-first_in n (Some c) = target n c.first
+first_in n (Some c) = target n c.first.0
 
 abbrev pub entry_in : {K V : Type 0} → Option (Cell K V) → Option (K × V)
 entry_in None = None
@@ -71,6 +71,17 @@ pub record WellFormed {K V : Type 0} (n : ℕ) (cells : List (Cell K V)) (free :
 -- each entry is in the bucket that its key's hash number picks
 abbrev pub Placed : {K V : Type 0} → (K → ℕ) → ℕ → List (Cell K V) → Type 0
 Placed hash n cells = (b : ℕ) → b < n → AllByRecursion (λ e. hash e.0 % n ≡ b) (bucket_entries n cells b)
+
+-- the lists are in order, and each entry is in the bucket of its key
+abbrev pub ValidCells : {K V : Type 0} → (K → ℕ) → ℕ → List (Cell K V) → ℕ → Type 0
+ValidCells hash n cells free = WellFormed n cells (target n free) × Placed hash n cells
+
+-- how many of the lent cells are in use, and which: all of them, or the first 32,768 if there are more
+abbrev pub room_of : {K V : Type 0} → List (Cell K V) → ℕ
+room_of cells = min (length cells) 32768
+
+abbrev pub used_of : {K V : Type 0} → List (Cell K V) → List (Cell K V)
+used_of cells = take (room_of cells) cells
 
 -- a place in the list xs of a bucket: there the value of k at rank stands, or xs ends
 pub record Found {K V : Type 0} (less : K → K → Bool) (cells : List (Cell K V)) (xs : List ℕ) (k : K) (rank : ℕ)

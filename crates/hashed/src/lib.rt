@@ -6,5 +6,5 @@ mod cell;
 mod hashed;
 mod list;
 
-pub use cell::Cell;
+pub use cell::{Cell, Link};
 pub use hashed::Hashed;

@@ -1,6 +1,6 @@
-use Rattle.std.proofs.Common.{◌≡◌, drop}
+use Rattle.std.proofs.Common.{length}
 use Rattle.hashed.specs.Cells.{target, Emptied}
 use Rattle.hashed.proofs.list.free_all.Given as goal
 
 abbrev pub invariant-loop-i : goal.invariant-loop-i
-invariant-loop-i g l = (drop l.room l.cells ≡ drop l.room l.initial.cells) × Emptied l.room l.cells (target l.room l.free) l.i
+invariant-loop-i g l = Emptied (length l.fn.cells) l.cells (target (length l.fn.cells) l.free.0) l.i

@@ -1,14 +1,12 @@
-use Rattle.std.proofs.Common.{◌≡◌, ℕ, ◌<◌, ◌≤◌, Some}
-use Rattle.hashed.specs.Links.{Linked}
-use Rattle.hashed.specs.Cells.{target, next_of, first_of, bucket_of}
+use Rattle.std.proofs.Common.{length}
+use Rattle.hashed.specs.Cells.{target, next_of, bucket_of}
+use Rattle.hashed.specs.Links.{walk}
 use Rattle.hashed.proofs.Walks.{Walking}
 use Rattle.hashed.proofs.list.seek.Given as goal
 
-abbrev pub invariant-loop-steps : goal.invariant-loop-steps
-invariant-loop-steps g l =
-    (l.passed ≤ l.rank) × ((y : ℕ) → l.previous ≡ Some y → y < l.room)
-    × (Linked (next_of l.room l.cells) (first_of l.room l.cells l.bucket) (bucket_of l.room l.cells l.bucket)
-    → Walking g.K.Key.less l.room l.cells (bucket_of l.room l.cells l.bucket) l.key l.rank l.previous (target l.room l.link) l.passed l.steps)
+abbrev pub invariant-loop-x : goal.invariant-loop-x
+invariant-loop-x g l = Walking g.K.Key.less (length l.cells) l.cells (bucket_of (length l.cells) l.cells l.bucket) l.key l.rank l.previous (target (length l.cells) l.link.0) l.passed
 
-abbrev pub decreases-loop-steps : goal.decreases-loop-steps
-decreases-loop-steps g l = l.steps
+-- how many cells are ahead
+abbrev pub decreases-loop-x : goal.decreases-loop-x
+decreases-loop-x g l = length (walk (next_of (length l.cells) l.cells) (length l.cells) (target (length l.cells) l.link.0))

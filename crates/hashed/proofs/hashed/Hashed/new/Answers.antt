@@ -1,20 +1,24 @@
-use Rattle.std.proofs.Common.{◌≡◌, ℕ, min, List, [], length, drop, sym, ap, ◌∙◌, subst}
-use Rattle.hashed.specs.Cells.{target, entries_in}
-use Rattle.hashed.specs.Store.{room_of, ValidCells}
-use Rattle.hashed.proofs.Emptied.{emptied_good, emptied-entries, emptied_placed}
+use Rattle.std.proofs.Common.{◌≡◌, ℕ, List, [], subst}
+use Rattle.hashed.specs.declared.cell.Cell.{Cell}
+use Rattle.hashed.specs.Cells.{target, entries_in, room_of, ValidCells, Emptied}
+use Rattle.hashed.proofs.Emptied.{emptied_valid, emptied-entries}
+use Rattle.hashed.proofs.Used.{part-length, after}
 use Rattle.hashed.proofs.hashed.Hashed.new.Goals as goal
 
-pub returns : goal.returns
-returns g c =
-    let cells = c.free_all-free.new.cells in
-    let n = c.room_for-room.result in
-    let free = c.free_all-free.result in
-    let same : room_of cells ≡ min (length c.args.cells.now) 32768 = ap (λ (m : ℕ). min m 32768) c.free_all-free.auto.cells in
-    let e : n ≡ room_of cells = c.room_for-room.ensures ∙ sym same in
-    let made = c.free_all-free.ensures.links in
+pub invariant_of-result : goal.invariant_of-result
+invariant_of-result g c =
+    let old = c.args.cells.now in
+    let f = c.free_all-free in
+    let made = subst (λ (n : ℕ). Emptied n f.new.cells (target n f.result.0) n) (part-length old c.room_for-room.result c.room_for-room.ensures) f.ensures in
     record {
-      empty = subst (λ (m : ℕ). entries_in m cells ≡ []) e (emptied-entries n cells (target n free) made);
-      valid = subst (λ (m : ℕ). ValidCells g.K.Key.hash m cells free) e (emptied_good n cells (target n free) made, emptied_placed n cells (target n free) made g.K.Key.hash);
-      room = same;
-      outside = ap (λ (t : List _). (c.args.cells.ghost_name, t)) (subst (λ (m : ℕ). drop m cells ≡ drop m c.args.cells.now) e c.free_all-free.ensures.past);
+      valid = ∣ after old c.room_for-room.result c.room_for-room.ensures (λ (n : ℕ) (cells : List (Cell g.row.K.Denot g.row.V.Denot)). ValidCells g.K.Key.hash n cells f.result.0) f.new.cells f.auto.cells
+          (emptied_valid (room_of old) f.new.cells f.result.0 made g.K.Key.hash) ∣₁;
     }
+
+pub returns-clause-empty : goal.returns-clause-empty
+returns-clause-empty g c =
+    let old = c.args.cells.now in
+    let f = c.free_all-free in
+    let made = subst (λ (n : ℕ). Emptied n f.new.cells (target n f.result.0) n) (part-length old c.room_for-room.result c.room_for-room.ensures) f.ensures in
+    after old c.room_for-room.result c.room_for-room.ensures (λ (n : ℕ) (cells : List (Cell g.row.K.Denot g.row.V.Denot)). entries_in n cells ≡ []) f.new.cells f.auto.cells
+    (emptied-entries (room_of old) f.new.cells f.result.0 made)
