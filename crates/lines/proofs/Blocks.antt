@@ -1,14 +1,15 @@
 -- What blocks of an input bring to a line.
-use Rattle.std.proofs.Common.{◌≡◌, ◌≢◌, ℕ, zero, suc, ◌+◌, ◌-◌, ◌<◌, ◌≤◌, Bool, ◌⊎◌, inl, inr, List, [], ◌∷◌, ◌++◌, All, length, get_or, take, None, Some, Ok, Result, Bor, IfSome, OnSome, nat_lt, Option, sym, refl, ap, subst, ◌∙◌, arith, append_assoc, append-nil, length-append, length-take, get_or-take, length-take-le}
+use Rattle.std.proofs.Common.{◌≡◌, ◌≢◌, ℕ, ◌+◌, ◌-◌, ◌<◌, ◌≤◌, Bool, ◌⊎◌, inl, inr, List, [], ◌∷◌, ◌++◌, All, length, get_or, take, None, Some, Ok, Result, Bor, IfSome, OnSome, nat_lt, Option, sym, refl, ap, subst, ◌∙◌, arith, append_assoc, append-nil, length-append, length-take, get_or-take, length-take-le}
 use Rattle.std.specs.Io.BufRead.{first_piece, drop_through, strip_last, DropsThrough, FillKeeps, DropsConsumable}
 use Rattle.std.specs.Io.{StartsWith}
 use Rattle.std.specs.Io.KnownBytes.{Consumes, IsAtEnd, Keeps}
-use Rattle.std.proofs.KnownBytes.{Consumes-nil, Consumes-trans, Consumes-kept}
+use Rattle.std.proofs.KnownBytes.{Consumes-trans}
 use Rattle.std.proofs.BufReadLemmas.{take_through-append, drop_through-append, Consumes_shown}
 use Rattle.std.proofs.Math.Seq.{take-append_seam}
 use Rattle.std.proofs.lemmas.List.{take_more}
-use Rattle.std.proofs.lemmas.List.Elements.{All-nil, All-append, All-take, All-get_or, All-from_get_or}
+use Rattle.std.proofs.lemmas.List.Elements.{All-append, All-take, All-get_or, All-from_get_or}
 use Rattle.std.proofs.lemmas.Bool.{cond-true, cond-false, and_from, and_right, lt-ltb, eq-eqb, ne_eqb}
+use Rattle.std.proofs.lemmas.Bool.Decides.{nat_tests}
 use Rattle.lines.specs.Buffer.{kept}
 use Rattle.lines.specs.Position.{Absent}
 use Rattle.lines.proofs.Kept.{take-front}
@@ -63,12 +64,6 @@ pub record Reading (old new : Option (List ℕ)) (held : List ℕ) : Type 0 wher
   pub same : held ≡ kept done
   pub read : Consumes old new done
 
-pub began : (a : Option (List ℕ)) (held : List ℕ) → held ≡ [] → Reading a a held
-began a held e = record { done = []; no_end = All-nil (λ b. b ≢ 10); same = e; read = Consumes-nil a }
-
-pub waits : (a b c : Option (List ℕ)) (held new : List ℕ) → Reading a b held → new ≡ held → Keeps b c → Reading a c new
-waits a b c held new r e k = record { done = r.done; no_end = r.no_end; same = e ∙ r.same; read = Consumes-kept a b c r.done r.read k }
-
 -- a part more of the line
 module _ (a b c : Option (List ℕ)) (held new part : List ℕ) (r : Reading a b held) (h : NoEnd part) (e : new ≡ kept (held ++ part)) where
   whole : NoEnd (r.done ++ part)
@@ -95,10 +90,7 @@ module _ (a b c : Option (List ℕ)) (held new part : List ℕ) (r : Reading a b
 
 -- whether a byte is left, of the line that is held or of the input
 same_sign : (m n : ℕ) → (0 < m → 0 < n) → (0 < n → 0 < m) → nat_lt 0 m ≡ nat_lt 0 n
-same_sign zero zero h k = refl
-same_sign zero (suc n) h k = absurd (omega (arith, k (omega arith)))
-same_sign (suc m) zero h k = absurd (omega (arith, h (omega arith)))
-same_sign (suc m) (suc n) h k = lt-ltb 0 (suc m) (omega arith) ∙ sym (lt-ltb 0 (suc n) (omega arith))
+same_sign m n h k = grind (arith, nat_tests)
 
 pub found : (a b : Option (List ℕ)) (held : List ℕ) (t : Bool) → Reading a b held → IfSome b (λ ys. t ≡ nat_lt 0 (length (held ++ ys))) → IfSome a (λ xs. t ≡ nat_lt 0 (length xs))
 found None b held t r h = tt
@@ -126,8 +118,8 @@ nothing_left (Some xs) None n z h k = absurd k
 nothing_left (Some xs) (Some ys) n z h k = (sym k, k ∙ h z)
 
 -- the first bytes that a block showed were taken
-pub taken : {E : Type 0} (a b c : Option (List ℕ)) (limit : Option ℕ) (r : Result (Bor (List ℕ)) E) (block : Bor (List ℕ)) (n : ℕ) → r ≡ Ok block → n ≤ length block.now
-    → IfSome a (λ xs. StartsWith xs block.now) → IfSome a (λ xs. length block.now ≡ 0 → xs ≡ []) → FillKeeps a b limit r → DropsConsumable b c limit n → Consumes a c (take n block.now)
-taken a b c limit r block n e h front end keeps drops =
+pub taken : {E : Type 0} (a b c : Option (List ℕ)) (limit : Option ℕ) (r : Result (Bor (List ℕ)) E) (block : Bor (List ℕ)) (n amount : ℕ) → n ≡ amount → r ≡ Ok block → n ≤ length block.now
+    → IfSome a (λ xs. StartsWith xs block.now) → IfSome a (λ xs. length block.now ≡ 0 → xs ≡ []) → FillKeeps a b limit r → DropsConsumable b c limit amount → Consumes a c (take n block.now)
+taken a b c limit r block n amount s e h front end keeps drops =
     let filled = subst (FillKeeps a b limit) e keeps in
-    (Consumes_shown a b c limit block.now n h front end filled.0 filled.1 drops).0
+    (Consumes_shown a b c limit block.now n h front end filled.0 filled.1 (subst (DropsConsumable b c limit) (sym s) drops)).0

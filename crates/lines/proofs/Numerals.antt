@@ -1,8 +1,8 @@
 -- What the bytes of a number say.
-use Rattle.std.proofs.Common.{◌≡◌, ◌≢◌, ℕ, ◌^◌, ◌<◌, ◌≤◌, true, false, ◌&&◌, List, [], ◌∷◌, length, None, Some, Ok, Err, Result, MatchResult, Bor, refl, ap, arith}
+use Rattle.std.proofs.Common.{◌≡◌, ◌≢◌, ℕ, ◌<◌, ◌≤◌, true, false, ◌&&◌, List, [], ◌∷◌, length, None, Some, Ok, Err, Result, MatchResult, Bor, refl, ap, arith}
 use Rattle.std.specs.List.{list_all}
 use Rattle.std.proofs.ByRecursion.{All-from_get_or}
-use Rattle.std.specs.Result.{OkIff, result_ok}
+use Rattle.std.specs.Result.{result_ok}
 use Rattle.std.specs.Str.{IsUtf8, all_ascii_digits}
 use Rattle.std.specs.Str.Parse.{digits_value, ParsesUnsigned}
 use Rattle.std.specs.Char.{is_ascii_digit}
@@ -24,13 +24,10 @@ pub digits_are_text : (ds : List ℕ) → all_ascii_digits ds ≡ true → IsUtf
 digits_are_text ds e = IsUtf8-from_ascii ds (IsAscii-from_digits ds (numerals.to ds e))
 
 -- what `parse` reads of at most ten digits is their number
-answered : {E : Type 0} (r : Result ℕ E) (ds : List ℕ) → length ds ≤ 10 → all_ascii_digits ds ≡ true → OkIff r ((0 < length ds) × (digits_value 10 ds < 2 ^ 32)) (digits_value 10 ds) → result_ok r ≡ number_of ds
-unfolding number_of
-answered (Ok x) ds k e f = grind (arith, nat_tests)
-answered (Err x) ds k e f = grind (arith, nat_tests)
-
 pub parsed : {E : Type 0} (r : Result ℕ E) (ds : List ℕ) → length ds ≤ 10 → all_ascii_digits ds ≡ true → ParsesUnsigned 32 10 ds r → result_ok r ≡ number_of ds
-parsed r ds k e f = answered r ds k e (parse_digits numerals 32 ds r f e)
+unfolding number_of
+parsed {E} (Ok x) ds k e f = let h = parse_digits numerals {E = E} 32 ds (Ok x) f e in grind (arith, nat_tests)
+parsed {E} (Err x) ds k e f = let h = parse_digits numerals {E = E} 32 ds (Err x) f e in grind (arith, nat_tests)
 
 -- bytes that are text are read as they are
 pub read_text : {E : Type 0} (r : Result (Bor (List ℕ)) E) (ds : List ℕ) (Q : E → Type 0) (s : Bor (List ℕ)) → MatchResult r (λ t. (t.now ≡ ds) × IsUtf8 ds) Q → result_ok r ≡ Some s → s.now ≡ ds

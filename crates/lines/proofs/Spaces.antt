@@ -1,6 +1,6 @@
 -- The first space of a line, and the fields before and after it.
-use Rattle.std.proofs.Common.{◌≡◌, ℕ, ◌<◌, eqb, List, [], ◌∷◌, ◌++◌, length, sym, refl, ap, ◌∙◌, arith, ne_eqb}
-use Rattle.std.proofs.lemmas.Bool.{cond-false, cond_both, eqb-true}
+use Rattle.std.proofs.Common.{◌≡◌, ℕ, ◌⊎◌, inl, inr, ⊎_elim, eqb, List, [], ◌∷◌, ◌++◌, refl, ap, ◌∙◌, eq-eqb, ne_eqb}
+use Rattle.std.proofs.lemmas.Bool.{cond-true, cond-false, cond_both, cases_eq}
 use Rattle.lines.specs.Fields.{Spaceless, onto_first, fields}
 
 -- the fields of a line with a space, and of one with none
@@ -12,37 +12,19 @@ pub only_field : (line : List ℕ) → Spaceless line → fields line ≡ line �
 only_field [] h = refl
 only_field (b ∷ line) h = cond-false _ _ _ (ne_eqb b 32 h.0) ∙ ap (onto_first b) (only_field line h.1)
 
--- a line is its fields, with a space between each and the next
-abbrev join : List (List ℕ) → List ℕ
-join [] = []
-join (f ∷ []) = f
-join (f ∷ g ∷ fs) = f ++ 32 ∷ join (g ∷ fs)
+-- a line has a field, and with a space in it two
+some_onto : (b : ℕ) (fs : List (List ℕ)) → (g : List ℕ) × (gs : List (List ℕ)) × (onto_first b fs ≡ g ∷ gs)
+some_onto b [] = (b ∷ [], [], refl)
+some_onto b (f ∷ fs) = (b ∷ f, fs, refl)
 
-join_onto : (b : ℕ) (fs : List (List ℕ)) → join (onto_first b fs) ≡ b ∷ join fs
-join_onto b [] = refl
-join_onto b (f ∷ []) = refl
-join_onto b (f ∷ g ∷ fs) = refl
-
-join_empty : (fs : List (List ℕ)) → 0 < length fs → join ([] ∷ fs) ≡ 32 ∷ join fs
-join_empty [] h = absurd (omega arith)
-join_empty (f ∷ fs) h = refl
-
-onto_some : (b : ℕ) (fs : List (List ℕ)) → 0 < length (onto_first b fs)
-onto_some b [] = omega arith
-onto_some b (f ∷ fs) = omega arith
-
-some_field : (line : List ℕ) → 0 < length (fields line)
-some_field [] = omega arith
+some_field : (line : List ℕ) → (f : List ℕ) × (fs : List (List ℕ)) × (fields line ≡ f ∷ fs)
+some_field [] = ([], [], refl)
 some_field (b ∷ line) =
-    cond_both (eqb b 32) _ _ (λ fs. 0 < length fs) (λ _. omega arith) (λ _. onto_some b (fields line))
+    cond_both (eqb b 32) _ _ (λ gs. (f : List ℕ) × (fs : List (List ℕ)) × (gs ≡ f ∷ fs)) (λ _. ([], fields line, refl)) (λ _. some_onto b (fields line))
 
-join_fields : (line : List ℕ) → join (fields line) ≡ line
-join_fields [] = refl
-join_fields (b ∷ line) =
-    cond_both (eqb b 32) _ _ (λ fs. join fs ≡ b ∷ line)
-    (λ e. join_empty (fields line) (some_field line) ∙ ap (λ l. 32 ∷ l) (join_fields line) ∙ ap (λ a. a ∷ line) (sym (eqb-true b 32 e)))
-    (λ _. join_onto b (fields line) ∙ ap (λ l. b ∷ l) (join_fields line))
-
--- so where there is one field, it is the line
-pub one_field : (line field : List ℕ) → fields line ≡ field ∷ [] → field ≡ line
-one_field line field e = ap join (sym e) ∙ join_fields line
+pub two_fields : (line : List ℕ) → Spaceless line ⊎ ((f : List ℕ) × (g : List ℕ) × (fs : List (List ℕ)) × (fields line ≡ f ∷ g ∷ fs))
+two_fields [] = inl tt
+two_fields (b ∷ line) =
+    ⊎_elim (λ e. let (f, fs, is) = some_field line in inr ([], f, fs, cond-true _ _ _ (eq-eqb b 32 e) ∙ ap (λ gs. [] ∷ gs) is))
+    (λ ne. ⊎_elim (λ s. inl (ne, s)) (λ t. inr (b ∷ t.0, t.1, t.2, cond-false _ _ _ (ne_eqb b 32 ne) ∙ ap (onto_first b) t.3)) (two_fields line))
+    (cases_eq b 32)

@@ -1,5 +1,5 @@
 -- What a line says, by its length and its first space.
-use Rattle.std.proofs.Common.{◌≡◌, ℕ, ◌<◌, ◌≤◌, List, [], ◌∷◌, ◌++◌, length, None, sym, refl, ap, ◌∙◌, ⊎_elim, arith}
+use Rattle.std.proofs.Common.{◌≡◌, ℕ, ◌<◌, ◌≤◌, List, [], ◌∷◌, ◌++◌, length, None, sym, ap, ◌∙◌, ⊎_elim, arith}
 use Rattle.std.specs.Str.{all_ascii_digits}
 use Rattle.std.proofs.lemmas.List.{take_all, length-take-le}
 use Rattle.std.proofs.lemmas.Bool.{cases_Bool, cases_lt, cond-true, cond-false, le-leb, lt-leb}
@@ -7,10 +7,10 @@ use Rattle.lines.specs.Buffer.{kept}
 use Rattle.lines.specs.Fields.{Spaceless, fields}
 use Rattle.lines.specs.Number.{number_of}
 use Rattle.lines.proofs.Numerals.{undigited, digits_spaceless}
-use Rattle.lines.proofs.Spaces.{first_field, only_field, one_field}
-use Rattle.listing.specs.Lines.{Parsed, malformed, with_place, by_fields, parsed}
+use Rattle.lines.proofs.Spaces.{first_field, only_field, two_fields}
+use Rattle.listing.specs.Lines.{Parsed, with_place, by_fields, parsed}
 
-pub too_long : (line : List ℕ) → 256 < length line → parsed line ≡ malformed
+pub too_long : (line : List ℕ) → 256 < length line → parsed line ≡ None
 unfolding parsed
 too_long line h = cond-false _ _ _ (lt-leb (length line) 256 h)
 
@@ -18,20 +18,19 @@ in_bounds : (line : List ℕ) → length line ≤ 256 → parsed line ≡ by_fie
 unfolding parsed
 in_bounds line h = cond-true _ _ _ (le-leb (length line) 256 h)
 
-pub spaceless : (line : List ℕ) → length line ≤ 256 → Spaceless line → parsed line ≡ malformed
+pub spaceless : (line : List ℕ) → length line ≤ 256 → Spaceless line → parsed line ≡ None
 spaceless line h s = in_bounds line h ∙ ap by_fields (only_field line s)
 
 -- what stands after the first space is the second field, unless a space in it makes it no number
-undigited_form : (key digits : List ℕ) (fs : List (List ℕ)) → number_of digits ≡ None → fields digits ≡ fs → by_fields (key ∷ fs) ≡ malformed
-undigited_form key digits [] n e = refl
-undigited_form key digits (f ∷ []) n e = ap (λ ds. with_place key (number_of ds)) (one_field digits f e) ∙ ap (with_place key) n
-undigited_form key digits (f ∷ g ∷ fs) n e = refl
+no_digits : (bytes f g : List ℕ) (fs : List (List ℕ)) → fields bytes ≡ f ∷ g ∷ fs → number_of bytes ≡ None
+no_digits bytes f g fs e =
+    ⊎_elim (λ t. let one = only_field bytes (digits_spaceless bytes t) in absurd (cc)) (undigited bytes) (cases_Bool (all_ascii_digits bytes))
 
 second_field : (key digits : List ℕ) → by_fields (key ∷ fields digits) ≡ with_place key (number_of digits)
 second_field key digits =
-    ⊎_elim (λ t. ap (λ fs. by_fields (key ∷ fs)) (only_field digits (digits_spaceless digits t)))
-    (λ f. let n = undigited digits f in undigited_form key digits (fields digits) n refl ∙ sym (ap (with_place key) n))
-    (cases_Bool (all_ascii_digits digits))
+    ⊎_elim (λ s. ap (λ fs. by_fields (key ∷ fs)) (only_field digits s))
+    (λ t. ap (λ fs. by_fields (key ∷ fs)) t.3 ∙ sym (ap (with_place key) (no_digits digits t.0 t.1 t.2 t.3)))
+    (two_fields digits)
 
 pub spaced : (line key digits : List ℕ) → length line ≤ 256 → line ≡ key ++ 32 ∷ digits → Spaceless key → parsed line ≡ with_place key (number_of digits)
 spaced line key digits h e s =

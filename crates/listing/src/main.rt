@@ -9,7 +9,7 @@ use lines::output::Output;
 use lines::reader::Reader;
 use listing::Listing;
 use ordered::Cell;
-use parser::{Line, parse};
+use parser::{Entry, parse};
 use std::io;
 use std::io::{Read, Write};
 
@@ -43,12 +43,12 @@ fn read<R: Read, W: Write + Drop>(
 ) {
     while lines.advance() {
         match parse(lines.line()) {
-            Line::Entry { key, place } => {
+            Some(Entry { key, place }) => {
                 if let Err(refusal) = listing.add(key, place) {
                     out.line(format_args!("refused {}", u8::from(refusal)));
                 }
             }
-            Line::Malformed => out.line("?"),
+            None => out.line("?"),
         }
     }
 }

@@ -23,7 +23,7 @@ returns-in-Some-clause-brings g c =
     let rested = c.fill_buf.follows.lender-at-none in
     let end = c.in-Some.ensures.end in
     let left = reader_remaining g.R.Read.remaining in
-    let consumed = taken (left c.args.input.now) (left rested) (left c.consume.new.self) (Some (length (reader_buffer rested))) c.fill_buf.result block (c.in-Some.end + 1) c.in_ok-block.was (omega (arith, end.0)) c.in_ok-block.ensures.front c.in_ok-block.ensures.end c.fill_buf.follows.holds-at-none c.consume.ensures.bytes in (
+    let consumed = taken (left c.args.input.now) (left rested) (left c.consume.new.self) (Some (length (reader_buffer rested))) c.fill_buf.result block (c.in-Some.end + 1) _ (omega arith) c.in_ok-block.was (omega (arith, end.0)) c.in_ok-block.ensures.front c.in_ok-block.ensures.end c.fill_buf.follows.holds-at-none c.consume.ensures.bytes in (
       take c.in-Some.end block.now,
       no_end_before block.now c.in-Some.end (omega (arith, end.0)) end.2,
       c.in-Some.ensures.added,
@@ -38,5 +38,5 @@ returns-in-None-clause-brings g c =
       take (length block.now) block.now,
       no_end_before block.now (length block.now) (le_refl (length block.now)) c.in-None.ensures.end,
       c.in-None.ensures.added,
-      taken (left c.args.input.now) (left rested) (left c.consume-in-None.new.self) (Some (length (reader_buffer rested))) c.fill_buf.result block (length block.now) c.in_ok-block.was (le_refl (length block.now)) c.in_ok-block.ensures.front c.in_ok-block.ensures.end c.fill_buf.follows.holds-at-none c.consume-in-None.ensures.bytes,
+      taken (left c.args.input.now) (left rested) (left c.consume-in-None.new.self) (Some (length (reader_buffer rested))) c.fill_buf.result block (length block.now) _ (omega arith) c.in_ok-block.was (le_refl (length block.now)) c.in_ok-block.ensures.front c.in_ok-block.ensures.end c.fill_buf.follows.holds-at-none c.consume-in-None.ensures.bytes,
     )

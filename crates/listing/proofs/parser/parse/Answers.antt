@@ -1,23 +1,30 @@
-use Rattle.std.proofs.Common.{length, sym, ◌∙◌}
-use Rattle.std.proofs.lemmas.Bool.{ltb-true, ltb-false}
-use Rattle.listing.specs.Lines.{malformed, meaning}
+use Rattle.std.proofs.Common.{Some, None, sym, ap, ◌∙◌, arith}
+use Rattle.listing.specs.Lines.{meaning, with_place}
 use Rattle.listing.proofs.Forms.{too_long, spaceless, spaced, says_whole}
 use Rattle.listing.proofs.parser.parse.Goals as goal
 
-pub returns-then-is_too_long : goal.returns-then-is_too_long
-returns-then-is_too_long c =
-    let says = sym (too_long c.args.line.now (ltb-true 256 (length c.args.line.now) (sym c.if-is_too_long.ensures))) in
-    record { parsed = says; whole = says_whole c.args.line.now malformed says }
+pub returns-then-line-gt-LONGEST_LINE : goal.returns-then-line-gt-LONGEST_LINE
+returns-then-line-gt-LONGEST_LINE c =
+    let line = c.args.line.now in
+    let says = sym (too_long line (omega arith)) in
+    record { parsed = says; whole = says_whole line None says }
 
-pub returns-in-Some : goal.returns-in-Some
-returns-in-Some c =
-    let split = c.in-Some.ensures in
-    let short = ltb-false 256 (length c.args.line.now) (sym c.if-is_too_long.ensures) in
-    let says = c.entry.ensures ∙ sym (spaced c.args.line.now c.in-Some.key.now c.in-Some.digits.now short split.0 split.1) in
-    record { parsed = says; whole = says_whole c.args.line.now (meaning c.entry.result) says }
+pub returns-in_err-key : goal.returns-in_err-key
+returns-in_err-key c =
+    let line = c.args.line.now in
+    let says = ap meaning c.from_residual.ensures ∙ sym (spaceless line (omega arith) c.in_err-key.ensures) in
+    record { parsed = says; whole = says_whole line _ says }
 
-pub returns-in-None : goal.returns-in-None
-returns-in-None c =
-    let short = ltb-false 256 (length c.args.line.now) (sym c.if-is_too_long.ensures) in
-    let says = sym (spaceless c.args.line.now short c.in-None.ensures) in
-    record { parsed = says; whole = says_whole c.args.line.now malformed says }
+pub returns-in_err-place : goal.returns-in_err-place
+returns-in_err-place c =
+    let line = c.args.line.now in
+    let key = c.in_ok-key.key.now in
+    let says = ap meaning c.from_residual-in_err-place.ensures ∙ ap (with_place key) c.in_err-place.ensures ∙ sym (spaced line key c.in_ok-key.digits.now (omega arith) c.in_ok-key.ensures.0 c.in_ok-key.ensures.1) in
+    record { parsed = says; whole = says_whole line _ says }
+
+pub returns : goal.returns
+returns c =
+    let line = c.args.line.now in
+    let key = c.in_ok-key.key.now in
+    let says = ap (with_place key) c.in_ok-place.ensures ∙ sym (spaced line key c.in_ok-key.digits.now (omega arith) c.in_ok-key.ensures.0 c.in_ok-key.ensures.1) in
+    record { parsed = says; whole = says_whole line _ says }
