@@ -8,20 +8,6 @@ fn key(number: u64) -> LettersKey {
     LettersKey { number }
 }
 
-fn number(key: Option<LettersKey>) -> Option<u64> {
-    match key {
-        Some(key) => Some(key.number),
-        None => None,
-    }
-}
-
-fn is_full(done: Result<(), Refusal>) -> bool {
-    match done {
-        Err(Refusal::Full) => true,
-        _ => false,
-    }
-}
-
 #[test]
 fn each_side_has_its_own_room(rt: HostRuntime) {
     let mut low = [Cell {
@@ -34,12 +20,12 @@ fn each_side_has_its_own_room(rt: HostRuntime) {
     }; 2];
     let mut split = Split::new(Ordered::new(&mut low), Ordered::new(&mut high), key(10));
     assert!(rt; split.put(key(9), 0, 90).is_ok());
-    assert!(rt; is_full(split.put(key(8), 0, 80)));
+    assert_eq!(rt; split.put(key(8), 0, 80), Err(Refusal::Full));
     assert!(rt; split.put(key(10), 0, 100).is_ok());
-    assert_eq!(rt; number(split.first()), Some(9));
-    assert_eq!(rt; number(split.above(key(9))), Some(10));
-    assert_eq!(rt; number(split.below(key(10))), Some(9));
-    assert_eq!(rt; number(split.last()), Some(10));
+    assert_eq!(rt; split.first(), Some(key(9)));
+    assert_eq!(rt; split.above(key(9)), Some(key(10)));
+    assert_eq!(rt; split.below(key(10)), Some(key(9)));
+    assert_eq!(rt; split.last(), Some(key(10)));
 }
 
 #[test]
@@ -60,6 +46,6 @@ fn a_split_of_splits_is_a_store(rt: HostRuntime) {
     let mut split = Split::new(lower, Ordered::new(&mut high), key(20));
     assert!(rt; split.put(key(5), 0, 50).is_ok());
     assert!(rt; split.put(key(25), 0, 250).is_ok());
-    assert_eq!(rt; number(split.above(key(5))), Some(25));
-    assert_eq!(rt; number(split.below(key(20))), Some(5));
+    assert_eq!(rt; split.above(key(5)), Some(key(25)));
+    assert_eq!(rt; split.below(key(20)), Some(key(5)));
 }

@@ -1,6 +1,7 @@
 // The store of the register.
 ghost use Rattle.std.specs.Prelude.{◌≡◌, [], min, length};
-ghost use Rattle.register.specs.Store.{state, Valid, side};
+ghost use Rattle.split.specs.Store.{state};
+ghost use Rattle.register.specs.Store.{side};
 
 use crate::usage::Use;
 use hashed::{Cell, Hashed};
@@ -8,11 +9,7 @@ use keys::LengthKey;
 use split::Split;
 
 /// Two hashed stores, for short answers and for long ones.
-pub type RegisterStore<'a> = Split<
-    Hashed<'a, LengthKey, Use>,
-    Hashed<'a, LengthKey, Use>,
-    LengthKey,
->;
+pub type RegisterStore<'a> = Split<Hashed<'a, LengthKey, Use>, Hashed<'a, LengthKey, Use>>;
 
 /// An empty store over lent cells: answers of fewer than eight bytes lie in `short`, all others in
 /// `long`, and each side has a room of its own.
@@ -20,7 +17,6 @@ pub fn register_store<'a>(
     short: &'a mut [Cell<LengthKey, Use>],
     long: &'a mut [Cell<LengthKey, Use>],
 ) -> RegisterStore<'a>
-    ensures valid { Valid result }
     ensures empty { (state result).contents ≡ [] }
     ensures sections { (k : LengthKey) → (state result).section k ≡ side k }
     ensures short_room { (state result).room 0 ≡ min (length short.old) 32768 }

@@ -5,22 +5,12 @@ use Rattle.keys.specs.Letters.{letters_less}
 use Rattle.keys.specs.declared.letters.LettersKey.{LettersKey}
 use Rattle.chains.specs.Contents.{key_above}
 use Rattle.chains.specs.State.{StoreState, values, put_outcome, take_outcome}
-use Rattle.ordered.specs.declared.ordered.Ordered.{Ordered}
-use Rattle.ordered.specs.Sorted.{Sorted}
-use Rattle.ordered.specs.Store.{entries, room_of, state_of}
 
 abbrev pub Numbers : Type 0
 Numbers = StoreState LettersKey ℕ
 
 abbrev pub key_of : ℕ → LettersKey
 key_of n = record { number = n }
-
--- what a store means, and that it is in order
-abbrev pub meaning : Ordered LettersKey ℕ → Numbers
-meaning s = state_of letters_less (entries s) (room_of s)
-
-abbrev pub InOrder : Ordered LettersKey ℕ → Type 0
-InOrder s = Sorted letters_less (entries s)
 
 -- a store of 32,768 cells without values
 abbrev pub empty : Numbers

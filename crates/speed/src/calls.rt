@@ -1,7 +1,7 @@
 // One call of the store for each of many keys, and how many of them gave something.
 ghost use Rattle.std.specs.Prelude.{◌≡◌, count_by};
-ghost use Rattle.speed.specs.Workload.{meaning, InOrder, filled, accepted, taken};
-ghost use Rattle.speed.specs.Workload.{has_value, has_above};
+ghost use Rattle.ordered.specs.Store.{state};
+ghost use Rattle.speed.specs.Workload.{filled, accepted, taken, has_value, has_above};
 
 use chains::{ChainStore, OrderedStore};
 use keys::LettersKey;
@@ -9,9 +9,8 @@ use ordered::Ordered;
 
 /// Puts each key at rank 0, and counts those accepted.
 pub(crate) fn put_all(store: &mut Ordered<'_, LettersKey, u32>, keys: &[u64]) -> usize
-    ensures valid { InOrder store.old → InOrder store.new }
-    ensures effect { InOrder store.old → meaning store.new ≡ filled (meaning store.old) keys.now }
-    ensures count { InOrder store.old → result ≡ accepted (meaning store.old) keys.now }
+    ensures effect { state store.new ≡ filled (state store.old) keys.now }
+    ensures count { result ≡ accepted (state store.old) keys.now }
 {
     let mut count: usize = 0;
     for &number in keys {
@@ -23,31 +22,27 @@ pub(crate) fn put_all(store: &mut Ordered<'_, LettersKey, u32>, keys: &[u64]) ->
 
 /// Looks each key up, and counts those that have a value.
 pub(crate) fn value_all(store: &Ordered<'_, LettersKey, u32>, wanted: &[u64]) -> usize
-    ensures { InOrder store.now → result ≡ count_by (has_value (meaning store.now)) wanted.now }
+    ensures { result ≡ count_by (has_value (state store.now)) wanted.now }
 {
-    let mut count: usize = 0;
-    for &number in wanted {
-        let value = store.value(LettersKey { number }, 0);
-        count += usize::from(value.is_some());
-    }
-    count
+    wanted
+        .iter()
+        .filter(|&&number| store.value(LettersKey { number }, 0).is_some())
+        .count()
 }
 
 /// Asks for the next key above each, and counts those that have one.
 pub(crate) fn above_all(store: &Ordered<'_, LettersKey, u32>, wanted: &[u64]) -> usize
-    ensures { InOrder store.now → result ≡ count_by (has_above (meaning store.now)) wanted.now }
+    ensures { result ≡ count_by (has_above (state store.now)) wanted.now }
 {
-    let mut count: usize = 0;
-    for &number in wanted {
-        let above = store.above(LettersKey { number });
-        count += usize::from(above.is_some());
-    }
-    count
+    wanted
+        .iter()
+        .filter(|&&number| store.above(LettersKey { number }).is_some())
+        .count()
 }
 
 /// Takes the value at rank 0 of each key out, and counts those that had one.
 pub(crate) fn take_all(store: &mut Ordered<'_, LettersKey, u32>, wanted: &[u64]) -> usize
-    ensures { InOrder store.old → result ≡ taken (meaning store.old) wanted.now }
+    ensures { result ≡ taken (state store.old) wanted.now }
 {
     let mut count: usize = 0;
     for &number in wanted {

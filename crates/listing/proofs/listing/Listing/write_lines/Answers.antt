@@ -25,7 +25,7 @@ pub loop-next-preserved : goal.loop-next-preserved
 loop-next-preserved g c =
     let l = c.args.self.now in
     let now = c.loop-next.invariant in (
-      listed_more (contents l) c.loop-next.keys c.loop-next.next c.loop-next.places now.0 c.in-Some.key c.above-next.result c.count-places.result (held-ascending l) c.in-Some.is c.above-next.ensures c.count-places.ensures,
+      listed_more (contents l) c.loop-next.keys c.loop-next.next c.loop-next.places now.0 c.in-Some.key _ c.count-places.result (held-ascending l) c.in-Some.is (search rules) c.count-places.ensures,
       λ plain. has_written_of_eq _ _ _ _ _ (lines_more (contents l) c.loop-next.keys c.loop-next.next c.loop-next.places now.0 c.in-Some.key (held-ascending l) c.in-Some.is)
           (has_written_append _ _ _ _ _ _ (now.1 plain) (search rules)),
     )
