@@ -83,3 +83,6 @@ module _ {X : Type 0} where
 
   pub kept_again : (r s t : Row X) → Kept r s → Kept s t → Kept r t
   kept_again r s t a b = record { len = b.len ∙ a.len; cells = b.cells ∙ a.cells; outside = b.outside ∙ a.outside }
+
+-- how long a row's lists are
+pub ruleset lengths = (length-items, length-order)

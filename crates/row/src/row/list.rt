@@ -1,5 +1,5 @@
 // The items of a row: reads and changes.
-#![tactic(auto, unfolding(crate::specs::Row::room))]
+#![tactic(auto, using(crate::proofs::Rooms::lengths), unfolding(crate::specs::Row::room))]
 
 ghost use Rattle.std.specs.Prelude.{◌≡◌, true, false, ◌&&◌, [], length, None, nat_le, nat_lt, slice_set};
 ghost use Rattle.std.specs.List.{insert, remove, slice_get};

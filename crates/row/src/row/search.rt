@@ -1,5 +1,5 @@
 // The partition point of the items: a search by halves with no branch on an item, first among blocks and then in one.
-#![tactic(auto, unfolding(crate::specs::Row::room))]
+#![tactic(auto, using(crate::proofs::Windows::halves), unfolding(crate::specs::Row::room))]
 
 ghost use Rattle.std.specs.Prelude.{◌≡◌, ℕ, ◌+◌, ◌*◌, ◌^◌, ◌<◌, ◌≤◌, Bool, length, if◌then◌else◌, count_by, slice_index_or};
 ghost use Rattle.std.specs.Fn.{ComputesKey};

@@ -14,9 +14,6 @@ returns-then-len-i g c =
     let i = c.args.i in
     record { answer = sym (slice_get_past xs i (omega arith)); effect = sym (removed_past xs i (omega arith)); refused = λ _. refl; room = refl; outside = refl }
 
-pub overflow_sub-b : goal.overflow_sub-b
-overflow_sub-b g c = omega (arith, length-items c.args.self.now)
-
 pub loop-b-init : goal.loop-b-init
 loop-b-init g c =
     let l = length-items c.args.self.now in
@@ -26,14 +23,6 @@ loop-b-init g c =
       high = omega arith;
       carried = carried_start (order c.args.self.now) _ _ c.args.self.now.len (omega arith);
     }
-
-pub rotate_in_back-carried-requires : goal.rotate_in_back-carried-requires
-unfolding room
-rotate_in_back-carried-requires g c =
-    let k = c.loop-b.invariant.kept in
-    let h = c.loop-b.invariant.high in
-    let l = length-items c.args.self.now in
-    omega (arith, c.args.self.now.fits)
 
 pub loop-b-preserved : goal.loop-b-preserved
 unfolding room
@@ -52,16 +41,6 @@ loop-b-preserved g c =
       high = omega (arith, v.high);
       carried = carried_step v.carried (order f.new.self) f.result (block_end s b) (b * 256) (omega (arith, r.fits)) (omega arith) (omega (arith, length-order s)) (omega (arith, v.high)) n f.ensures.items;
     }
-
-pub shift_down-out-requires-clause-forward : goal.shift_down-out-requires-clause-forward
-shift_down-out-requires-clause-forward g c =
-    let v = c.loop-b.invariant in
-    let k = v.kept in
-    let l = length-items c.args.self.now in
-    omega (arith, c.args.self.now.fits)
-
-pub overflow_sub-self : goal.overflow_sub-self
-overflow_sub-self g c = omega (arith, length-items c.args.self.now, c.loop-b.invariant.kept.len, c.shift_down-out.ensures.kept.len)
 
 pub returns : goal.returns
 unfolding room outside

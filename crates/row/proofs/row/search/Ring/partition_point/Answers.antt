@@ -17,15 +17,6 @@ loop-j-init g c =
       λ p k part. first p (turned c.args.self.now) n h (c.power-width.result - 1) c.if-pred.low c.at.result b part (omega arith) c.at.ensures (computed g.met.F.FnMut.1 p k c.pred.ensures) (omega arith) (omega arith) (omega arith) l,
     )
 
-pub overflow_add-low : goal.overflow_add-low
-overflow_add-low g c = let q = pow_half c.loop-j.j (omega arith) in omega arith
-
-pub at-requires-in-loop-j : goal.at-requires-in-loop-j
-at-requires-in-loop-j g c = let q = pow_half c.loop-j.j (omega arith) in let pp = pow_pos (c.loop-j.j - 1) in omega arith
-
-pub overflow_add-low-in-loop-j : goal.overflow_add-low-in-loop-j
-overflow_add-low-in-loop-j g c = let q = pow_half c.loop-j.j (omega arith) in let m = bit_le c.pred-in-loop-j.result (2 ^ (c.loop-j.j - 1)) in omega arith
-
 pub loop-j-preserved : goal.loop-j-preserved
 loop-j-preserved g c =
     let q = pow_half c.loop-j.j (omega arith) in
