@@ -73,7 +73,7 @@ module _ {X : Type 0} where
       let l : length new.cells.now ≡ length c = rw e (length_put_mid a k c z lz (omega arith)) in
       let same : room_of new.cells.now ≡ m = omega arith in
       let d : drop (room_of new.cells.now) new.cells.now ≡ drop m c = rw (same, e) (drop-put_mid a k c z m le (omega arith) lz) in
-      record { len = n; cells = l; outside = ap (λ (v : GName). (v, drop (room_of new.cells.now) new.cells.now)) g ∙ ap (λ (t : List X). (old.cells.ghost_name, t)) d }
+      record { len = n; cells = l; outside = rw (g, d) }
 
   -- a write to one cell of a block
   pub kept_set : (old new : Row X) {b s k : ℕ} (B : Block 256 old.heads old.cells.now b s k) (at : ℕ) (x : X) → new.len ≡ old.len → new.cells.ghost_name ≡ old.cells.ghost_name → new.cells.now ≡ set old.cells.now (s + at) x → at < k → s + k ≤ room_of old.cells.now → Kept old new

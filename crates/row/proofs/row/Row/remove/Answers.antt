@@ -8,12 +8,6 @@ use Rattle.row.proofs.Lists.{removed_past, taken_out}
 use Rattle.row.proofs.Rooms.{length-items, length-order, items-order, kept_again}
 use Rattle.row.proofs.row.Row.remove.Goals as goal
 
-pub returns-then-len-i : goal.returns-then-len-i
-returns-then-len-i g c =
-    let xs = items c.args.self.now in
-    let i = c.args.i in
-    record { answer = sym (slice_get_past xs i (omega arith)); effect = sym (removed_past xs i (omega arith)); refused = λ _. refl; room = refl; outside = refl }
-
 pub loop-b-init : goal.loop-b-init
 loop-b-init g c =
     let l = length-items c.args.self.now in
