@@ -5,14 +5,6 @@ use Rattle.row.proofs.Rooms.{block_in}
 use Rattle.row.proofs.Rings.{read}
 use Rattle.row.proofs.row.Row.block_first.Goals as goal
 
-pub bounds-self-b : goal.bounds-self-b
-unfolding room
-bounds-self-b g c = let h = c.args.self.now.headed c.args.b c.requires in omega arith
-
-pub bounds-self-b-2 : goal.bounds-self-b-2
-unfolding room
-bounds-self-b-2 g c = let h = c.args.self.now.headed c.args.b c.requires in omega arith
-
 pub returns : goal.returns
 unfolding room
 returns g c d =

@@ -10,6 +10,3 @@ returns-then-i-len g c =
     let n : length r.heads ≡ 128 = omega arith in
     let v = c.index-self-cell_of.result in
     sym (an_item r n c.args.i v (omega (arith, length-items r)) ∙ ap (λ (x : _). Some x) (c.cell_of.ensures.read v))
-
-pub returns-else-i-len : goal.returns-else-i-len
-returns-else-i-len g c = sym (slice_get_past (items c.args.self.now) c.args.i (omega arith))

@@ -17,14 +17,6 @@ loop-b-init g c =
       left = record { at = block_end r (c.args.i / 256); after = omega arith; before = omega arith; within = omega arith; is = sym f.ensures.items };
     }
 
-pub rotate_in_front-carried-requires : goal.rotate_in_front-carried-requires
-unfolding room
-rotate_in_front-carried-requires g c =
-    let a = c.insert_within-carried.ensures.kept in
-    let k = c.loop-b.invariant.kept in
-    let l = length-items c.args.self.now in
-    omega arith
-
 pub loop-b-preserved : goal.loop-b-preserved
 unfolding room
 loop-b-preserved g c =
