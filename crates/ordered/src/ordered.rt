@@ -6,7 +6,6 @@ use crate::cell::Cell;
 use keys::Key;
 use row::Row;
 
-mod edit;
 mod neighbours;
 mod store;
 
