@@ -1,19 +1,23 @@
 -- The outcomes of a store's calls, by what was found among its entries and what became of them.
-use Rattle.std.proofs.Common.{◌≡◌, ℕ, ◌+◌, ◌<◌, ◌≤◌, min, Bool, true, false, ◌&&◌, ltb, leb, List, [], ◌∷◌, length, get_or, set, is_some, Some, None, Ok, Err, Option, sym, refl, ap, ◌∙◌, subst, ⊎_elim, arith}
+use Rattle.std.proofs.Common.{◌≡◌, ℕ, ◌+◌, ◌<◌, ◌≤◌, min, Bool, true, false, ◌&&◌, ltb, leb, List, [], ◌∷◌, length, get_or, set, not, is_some, Some, None, option_map, Ok, Err, Option, sym, refl, ap, ◌∙◌, subst, ⊎_elim, arith}
 use mathlib.Core.HLevel.{is_prop→PathP}
+use Rattle.std.specs.Option.{MatchOption}
+use Rattle.std.specs.Bool.{then_some}
 use Rattle.std.specs.List.{insert, remove, slice_get}
 use Rattle.std.proofs.lemmas.Option.{slice_get-get_or, slice_get_within, slice_get_past, slice_get_cases, get_or_from_slice_get}
 use Rattle.std.proofs.lemmas.Bool.{both_ways, cases_Bool, ltb-true, ltb-false, and_parts, and_cases, le-leb, lt-ltb}
 use Rattle.keys.specs.Order.{StrictOrder}
 use Rattle.keys.specs.declared.key.Key.{Ghosts}
 use Rattle.chains.specs.Contents.{sequence, with_sequence}
-use Rattle.chains.specs.State.{with_values, put_outcome, set_outcome, take_outcome}
+use Rattle.chains.specs.State.{values, with_values, put_outcome, set_outcome, take_outcome}
 use Rattle.chains.specs.declared.refusal.Refusal.TheVariants.{Full}
 use Rattle.chains.proofs.Entries.{contents-used}
 use Rattle.chains.proofs.Outcomes.{put_full, put_done, set_done, take_done}
+use Rattle.row.proofs.Rooms.{items_fit, room_small}
 use Rattle.row.specs.Row.{items, room}
 use Rattle.row.specs.declared.row.Row.{Row}
 use Rattle.ordered.specs.declared.cell.Cell.{Cell}
+use Rattle.ordered.specs.declared.ordered.Found.{Found}
 use Rattle.ordered.specs.declared.ordered.Ordered.{Ordered}
 use Rattle.ordered.specs.Sorted.{Sorted, Sorted-prop, smaller, held}
 use Rattle.ordered.specs.Store.{state_of, entries, room_of, state, StandsAt, GoesAt}
@@ -27,35 +31,33 @@ same_store {order = order} s t e = λ i. record {
   sorted = is_prop→PathP (λ j. Sorted order.less (items (e j))) (λ j. Sorted-prop order.less (items (e j))) s.sorted t.sorted i;
 }
 
-nth_outside : {X : Type 0} (xs : List X) (i : ℕ) → slice_get xs i ≡ None → length xs ≤ i
-nth_outside xs i e = grind (arith, slice_get_cases)
-
-module _ {K V : Type 0} {less : K → K → Bool} (o : StrictOrder less) where
+module _ {K V : Type 0} {order : Ghosts K} (o : StrictOrder order.less) (s : Ordered K V order) (k : K) (start rank place : ℕ) (a : start ≡ smaller order.less (entries s) k) (p : place ≡ min (start + rank) 18446744073709551615) where
   -- ---- what a search at a rank finds: the place is the key's first plus the rank, unless that passes 64 bits
 
-  pub found : (es : List (Cell K V)) (k : K) (start rank place : ℕ) (c : Cell K V) → Sorted less es → length es ≤ 32768 → start ≡ smaller less es k → place ≡ min (start + rank) 18446744073709551615
-      → slice_get es place ≡ Some c → less k c.key ≡ false
-      → (place ≡ smaller less es k + rank) × (rank < length (sequence less (held less es) k)) × (slice_get (sequence less (held less es) k) rank ≡ Some c.value)
-  found es k start rank place c s small a p n f =
-      let lt = slice_get_within es place c n in
-      let here = get_or_from_slice_get es place c c n in
-      let at : place ≡ smaller less es k + rank = omega arith in
-      let there = present o es k rank place s at c lt (ap (λ (x : Cell K V). less k x.key) here ∙ f) in
-      (at, there, value_at o es k rank place s at c there ∙ ap (λ (x : Cell K V). Some x.value) here)
+  pub none_there : slice_get (entries s) place ≡ None → length (values order.less (state s) k) ≤ rank
+  none_there n =
+      let w = stretch_within o (entries s) k in
+      let past : length (entries s) ≤ place = grind (arith, slice_get_cases, n) in
+      omega (arith, items_fit s.row, room_small s.row)
 
-  pub other_there : (es : List (Cell K V)) (k : K) (start rank place : ℕ) (c : Cell K V) → Sorted less es → length es ≤ 32768 → start ≡ smaller less es k → place ≡ min (start + rank) 18446744073709551615
-      → slice_get es place ≡ Some c → less k c.key ≡ true → length (sequence less (held less es) k) ≤ rank
-  other_there es k start rank place c s small a p n t =
-      let lt = slice_get_within es place c n in
-      let here = get_or_from_slice_get es place c c n in
-      absent o es k rank place s (omega arith) c (ap (λ (x : Cell K V). less k x.key) here ∙ t)
-
-  pub none_there : (es : List (Cell K V)) (k : K) (start rank place : ℕ) → start ≡ smaller less es k → place ≡ min (start + rank) 18446744073709551615 → slice_get es place ≡ None
-      → length (sequence less (held less es) k) ≤ rank
-  none_there es k start rank place a p n =
-      let w = stretch_within o es k in
-      let past = nth_outside es place n in
-      omega arith
+  pub found : (c : Cell K V) (b : Bool) (r : Option (Found V)) → slice_get (entries s) place ≡ Some c → b ≡ order.less k c.key → r ≡ then_some (not b) (record { place = place; value = c.value })
+      → MatchOption r (length (values order.less (state s) k) ≤ rank) (λ f. StandsAt s k rank f.place) × (option_map (λ f. f.value) r ≡ slice_get (values order.less (state s) k) rank)
+  found c b r n t e = go b t e
+    where
+      lt : place < length (entries s)
+      lt = slice_get_within (entries s) place c n
+      here : get_or (entries s) place c ≡ c
+      here = get_or_from_slice_get (entries s) place c c n
+      at : place ≡ smaller order.less (entries s) k + rank
+      at = omega (arith, lt, items_fit s.row, room_small s.row)
+      go : (b : Bool) → b ≡ order.less k c.key → r ≡ then_some (not b) (record { place = place; value = c.value })
+          → MatchOption r (length (values order.less (state s) k) ≤ rank) (λ f. StandsAt s k rank f.place) × (option_map (λ f. f.value) r ≡ slice_get (values order.less (state s) k) rank)
+      go true t e =
+          let past = absent o (entries s) k rank place s.sorted at c (ap (λ (x : Cell K V). order.less k x.key) here ∙ sym t) in
+          rw e (past, sym (slice_get_past (values order.less (state s) k) rank past))
+      go false t e =
+          let there = present o (entries s) k rank place s.sorted at c lt (ap (λ (x : Cell K V). order.less k x.key) here ∙ sym t) in
+          rw e ((at, there), sym (value_at o (entries s) k rank place s.sorted at c there ∙ ap (λ (x : Cell K V). Some x.value) here))
 
 pub nothing : {X : Type 0} (o : Option X) (b : Bool) → b ≡ is_some o → b ≡ false → o ≡ None
 nothing None b e f = refl

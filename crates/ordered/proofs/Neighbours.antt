@@ -1,5 +1,5 @@
 -- At which places of sorted entries the first, last and neighbouring keys stand.
-use Rattle.std.proofs.Common.{◌≡◌, ℕ, zero, suc, ◌+◌, ◌<◌, ◌≤◌, Bool, true, false, cond, List, [], ◌∷◌, length, get_or, Some, None, sym, refl, ap, ◌∙◌, subst, ⊎_elim, arith}
+use Rattle.std.proofs.Common.{◌≡◌, ℕ, zero, suc, ◌+◌, ◌<◌, ◌≤◌, Bool, true, false, cond, List, [], ◌∷◌, length, get_or, None, option_map, sym, refl, ap, ◌∙◌, subst, ⊎_elim, arith}
 use Rattle.std.specs.List.{slice_get}
 use Rattle.std.proofs.lemmas.Option.{slice_get_past, slice_get-get_or}
 use Rattle.std.proofs.lemmas.Bool.{both_ways, cases_Bool, cases_lt}
@@ -11,7 +11,6 @@ use Rattle.chains.proofs.Orders.{same_refl, same_eq}
 use Rattle.chains.proofs.Entries.{contents-ascending, contents-sequence}
 use Rattle.chains.proofs.Neighbours.{least_unique, first_least, last_greatest, above_least, below_greatest}
 use Rattle.ordered.specs.declared.cell.Cell.{Cell}
-use Rattle.ordered.specs.Found.{keyed}
 use Rattle.ordered.specs.Sorted.{Sorted, smaller, not_greater, held}
 use Rattle.ordered.proofs.Sorted.{sorted_at, behind_place, up_to_place, ahead_place, from_place}
 use Rattle.ordered.proofs.Effects.{stretch_within}
@@ -51,9 +50,9 @@ module _ {K V : Type 0} {less : K → K → Bool} (o : StrictOrder less) where
 
   module _ (before : K → K → Bool) (Q : K → Type 0) (es : List (Cell K V)) (d : Cell K V) (values : (k : K) → Q k → HasValues less (held less es) k) where
     best_at : (i : ℕ) → i < length es → Q (get_or es i d).key → ((j : ℕ) → j < length es → Q (get_or es j d).key → before (get_or es j d).key (get_or es i d).key ≡ false)
-        → Least before Q (keyed (slice_get es i))
+        → Least before Q (option_map (λ x. x.key) (slice_get es i))
     best_at i h q rest =
-        let e = ap keyed (slice_get-get_or es i d h) in
+        let e = ap (option_map (λ x. x.key)) (slice_get-get_or es i d h) in
         rw e (q, λ k p. go k p (place es k (values k p)))
       where
         go : (k : K) → Q k → Place es k → before k (get_or es i d).key ≡ false
@@ -67,14 +66,14 @@ module _ {K V : Type 0} {less : K → K → Bool} (o : StrictOrder less) where
 
   -- ---- the four answers
 
-  pub first_is : (es : List (Cell K V)) → Sorted less es → keyed (slice_get es 0) ≡ first_key (held less es)
+  pub first_is : (es : List (Cell K V)) → Sorted less es → option_map (λ x. x.key) (slice_get es 0) ≡ first_key (held less es)
   first_is [] s = refl
   first_is (e ∷ es) s =
       least_unique o.connected (HasValues less (held less (e ∷ es))) _ _
       (best_at less (HasValues less (held less (e ∷ es))) (e ∷ es) e (λ k h. h) 0 (omega arith) (has_values (e ∷ es) 0 e (omega arith)) (λ j lt _. sorted_at o (e ∷ es) 0 j e s (omega arith) lt))
       (first_least o (held less (e ∷ es)) (contents-ascending o (λ e. e.key) (λ e. e.value) (e ∷ es)))
 
-  pub last_is : (es : List (Cell K V)) (i : ℕ) → Sorted less es → length es ≡ i + 1 → keyed (slice_get es i) ≡ last_key (held less es)
+  pub last_is : (es : List (Cell K V)) (i : ℕ) → Sorted less es → length es ≡ i + 1 → option_map (λ x. x.key) (slice_get es i) ≡ last_key (held less es)
   last_is [] i s n = absurd (omega arith)
   last_is (e ∷ es) i s n =
       least_unique (λ x y p q. o.connected x y q p) (HasValues less (held less (e ∷ es))) _ _
@@ -85,7 +84,7 @@ module _ {K V : Type 0} {less : K → K → Bool} (o : StrictOrder less) where
   last_none [] n = refl
   last_none (e ∷ es) n = absurd (omega arith)
 
-  pub above_is : (es : List (Cell K V)) (k : K) → Sorted less es → keyed (slice_get es (not_greater less es k)) ≡ key_above less (held less es) k
+  pub above_is : (es : List (Cell K V)) (k : K) → Sorted less es → option_map (λ x. x.key) (slice_get es (not_greater less es k)) ≡ key_above less (held less es) k
   above_is [] k s = refl
   above_is (d ∷ ds) k s =
       let es = d ∷ ds in
@@ -100,7 +99,7 @@ module _ {K V : Type 0} {less : K → K → Bool} (o : StrictOrder less) where
       (cases_lt i (length es)))
       (above_least o (held less es) k (contents-ascending o (λ e. e.key) (λ e. e.value) es))
 
-  pub below_is : (es : List (Cell K V)) (k : K) (i : ℕ) → Sorted less es → smaller less es k ≡ i + 1 → keyed (slice_get es i) ≡ key_below less (held less es) k
+  pub below_is : (es : List (Cell K V)) (k : K) (i : ℕ) → Sorted less es → smaller less es k ≡ i + 1 → option_map (λ x. x.key) (slice_get es i) ≡ key_below less (held less es) k
   below_is [] k i s n = absurd (omega arith)
   below_is (d ∷ ds) k i s n =
       let es = d ∷ ds in
