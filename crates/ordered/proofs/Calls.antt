@@ -1,14 +1,14 @@
 -- The outcomes of a store's calls, by what was found among its entries and what became of them.
-use Rattle.std.proofs.Common.{◌≡◌, ℕ, ◌+◌, ◌<◌, ◌≤◌, min, Bool, true, false, ◌&&◌, ltb, leb, List, [], ◌∷◌, length, get_or, set, not, is_some, Some, None, option_map, Ok, Err, Option, sym, refl, ap, ◌∙◌, subst, ⊎_elim, arith}
+use Rattle.std.proofs.Common.{◌≡◌, ℕ, ◌+◌, ◌<◌, ◌≤◌, min, Bool, true, false, ◌&&◌, ltb, leb, List, length, get_or, set, not, is_some, Some, None, option_map, Ok, Err, Option, sym, refl, ap, ◌∙◌, subst, ⊎_elim, arith}
 use mathlib.Core.HLevel.{is_prop→PathP}
 use Rattle.std.specs.Option.{MatchOption}
 use Rattle.std.specs.Bool.{then_some}
 use Rattle.std.specs.List.{insert, remove, slice_get}
-use Rattle.std.proofs.lemmas.Option.{slice_get-get_or, slice_get_within, slice_get_past, slice_get_cases, get_or_from_slice_get}
+use Rattle.std.proofs.lemmas.Option.{slice_get_within, slice_get_past, slice_get_cases, get_or_from_slice_get}
 use Rattle.std.proofs.lemmas.Bool.{both_ways, cases_Bool, ltb-true, ltb-false, and_parts, and_cases, le-leb, lt-ltb}
 use Rattle.keys.specs.Order.{StrictOrder}
 use Rattle.keys.specs.declared.key.Key.{Ghosts}
-use Rattle.chains.specs.Contents.{sequence, with_sequence}
+use Rattle.chains.specs.Contents.{with_sequence}
 use Rattle.chains.specs.State.{values, with_values, put_outcome, set_outcome, take_outcome}
 use Rattle.chains.specs.declared.refusal.Refusal.TheVariants.{Full}
 use Rattle.chains.proofs.Entries.{contents-used}
@@ -46,10 +46,13 @@ module _ {K V : Type 0} {order : Ghosts K} (o : StrictOrder order.less) (s : Ord
     where
       lt : place < length (entries s)
       lt = slice_get_within (entries s) place c n
+
       here : get_or (entries s) place c ≡ c
       here = get_or_from_slice_get (entries s) place c c n
+
       at : place ≡ smaller order.less (entries s) k + rank
       at = omega (arith, lt, items_fit s.row, room_small s.row)
+
       go : (b : Bool) → b ≡ order.less k c.key → r ≡ then_some (not b) (record { place = place; value = c.value })
           → MatchOption r (length (values order.less (state s) k) ≤ rank) (λ f. StandsAt s k rank f.place) × (option_map (λ f. f.value) r ≡ slice_get (values order.less (state s) k) rank)
       go true t e =
