@@ -32,7 +32,7 @@ module _ {K V : Type 0} {less : K → K → Bool} (o : StrictOrder less) (es : L
       let b = stretch o es k in
       ⊎_elim (λ h. h) (λ h. absurd (both_ways (less k (get_or es i d).key) f (behind_place o es k i d s (omega arith) lt))) (cases_lt rank (length (sequence less (held less es) k)))
 
-  own : (d : Cell K V) → rank < length (sequence less (held less es) k) → (get_or es i d).key ≡ k
+  pub own : (d : Cell K V) → rank < length (sequence less (held less es) k) → (get_or es i d).key ≡ k
   own d lt = let b = stretch o es k in key_at o es k i d s (omega arith) (omega arith)
 
   pub absent : (d : Cell K V) → less k (get_or es i d).key ≡ true → length (sequence less (held less es) k) ≤ rank
