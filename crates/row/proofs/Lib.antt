@@ -1,5 +1,4 @@
 pub mod Cascade
-pub mod Heads
 pub mod Lists
 pub mod Rings
 pub mod Rooms

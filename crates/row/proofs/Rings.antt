@@ -2,7 +2,7 @@
 use Rattle.std.proofs.Common.{◌≡◌, ℕ, suc, ◌+◌, ◌-◌, ◌*◌, ◌<◌, ◌≤◌, min, ◌⊎◌, List, [], ◌∷◌, ◌++◌, length, get_or, take, drop, set, sym, refl, ap, ◌∙◌, subst, inl, inr, suc-mul, zero-mul, arith}
 use lib.Seq.{take-set-lt}
 use borrow.Rule.Slice.PartMut.{put_mid}
-use Rattle.std.proofs.lemmas.List.{take_at, drop_at, append_assoc, append-nil, take-append-drop, take-append-le, drop-append-le, length-take-le, length-drop, length-append, length-take, nil_from_length, take_all, drop_all, set_split, set-get_or, set-append_left, set-append_right, drop-set-add, drop-set-lt, take-set-le, length-set, get_or_append_left, get_or-append_right, get_or-take, get_or-drop}
+use Rattle.std.proofs.lemmas.List.{take_at, drop_at, append_assoc, append-nil, take-append-drop, take-append-le, drop-append-le, length-take-le, length-drop, length-append, length-take, nil_from_length, take_all, drop_all, set_split, set-get_or, set-append_left, set-append_right, drop-set-add, drop-set-lt, take-set-le, length-set, get_or_default, get_or_append_left, get_or-append_right, get_or-take, get_or-drop}
 use Rattle.std.proofs.lemmas.Bool.{cases_lt}
 use Rattle.row.specs.Rings.{ring, rings}
 use Rattle.std.specs.List.{insert}
@@ -152,6 +152,14 @@ module _ {X : Type 0} where
         ∙ ring_read h o at k (take k (drop s c)) d hl ol length_block way
         ∙ get_or-take k (drop s c) at d (in_ring_below h o k at hl ol way) ∙ get_or-drop s c at d
 
+    -- a write to a cell of the block
+    pub parted : (at : ℕ) (x : X) → at < k → set c (s + at) x ≡ put_mid s k c (set (take k (drop s c)) at x)
+    parted at x al =
+        let z = take k (drop s c) in
+        let lz : length z ≡ k = length_block in
+        let ls : length (take s c) ≡ s = length-take-le s c (omega (arith, B.within)) in
+        ap (λ (t : List X). set t (s + at) x) (sym (put_back c s k)) ∙ set_mid (take s c) z (drop k (drop s c)) s at (s + at) x ls (omega arith) refl
+
     -- a write to the cell where an item stands changes that item alone
     pub written : (o at p : ℕ) (x : X) → o < k → InRing (get_or hs b 0) o k at → p ≡ s + o → rings w hs (set c (s + at) x) ≡ set (rings w hs c) p x
     written o at p x ol way q =
@@ -160,10 +168,7 @@ module _ {X : Type 0} where
         let z = take k (drop s c) in
         let lz : length z ≡ k = length_block in
         let lr : length (ring h z) ≡ k = length-ring h z ∙ lz in
-        let al : at < k = in_ring_below h o k at hl ol way in
-        let la : length (take s c) ≡ s = length-take-le s c (omega (arith, B.within)) in
-        let parted : set c (s + at) x ≡ put_mid s k c (set z at x) = ap (λ (t : List X). set t (s + at) x) (sym (put_back c s k)) ∙ set_mid (take s c) z (drop k (drop s c)) s at (s + at) x la (omega arith) refl in
-        ap (λ (t : List X). rings w hs t) parted
+        ap (λ (t : List X). rings w hs t) (parted at x (in_ring_below h o k at hl ol way))
         ∙ ap (λ (t : List ℕ). rings w t (put_mid s k c (set z at x))) (sym (set-get_or hs b 0)) ∙ rings-at h (set z at x) (length-set z at x ∙ lz)
         ∙ ap (λ (t : List X). front w hs b s c ++ (t ++ back w hs b s k c)) (ring_written h o at k z x hl ol lz way)
         ∙ sym (set_mid (front w hs b s c) (ring h z) (back w hs b s k c) s o p x length_front (omega arith) q)
@@ -191,3 +196,15 @@ module _ {X : Type 0} where
         → insert (rings w hs c) p x ≡ insert (rings w hs (put_mid s k c z)) p' y
     passed_on to to' p p' z x y lz le le' q q' e =
         passed (get_or hs b 0) to to' p p' z x y lz le le' q q' e ∙ ap (λ (t : List ℕ). insert (rings w t (put_mid s k c z)) p' y) (set-get_or hs b 0)
+
+    -- the same where one cell of the block is written
+    pub turned : (at h to to' p p' : ℕ) (x y : X) → at < k → to ≤ k → to' ≤ k → p ≡ s + to → p' ≡ s + to'
+        → insert (ring (get_or hs b 0) (take k (drop s c))) to x ≡ insert (ring h (set (take k (drop s c)) at x)) to' y
+        → insert (rings w hs c) p x ≡ insert (rings w (set hs b h) (set c (s + at) x)) p' y
+    turned at h to to' p p' x y al le le' q q' e =
+        let z = take k (drop s c) in
+        passed h to to' p p' (set z at x) x y (length-set z at x ∙ length_block) le le' q q' e ∙ ap (λ (t : List X). insert (rings w (set hs b h) t) p' y) (sym (parted at x al))
+
+    -- a cell of the block, read
+    pub cell_in : (at : ℕ) (d d' : X) → at < k → get_or c (s + at) d ≡ get_or (take k (drop s c)) at d'
+    cell_in at d d' al = get_or_default c (s + at) d d' (omega (arith, B.within)) ∙ sym (get_or-take k (drop s c) at d' al ∙ get_or-drop s c at d')

@@ -1,9 +1,9 @@
 -- The cells up to the room, those past it, and what a row holds.
-use Rattle.std.proofs.Common.{◌≡◌, ℕ, ◌+◌, ◌-◌, ◌*◌, ◌<◌, ◌≤◌, min, List, ◌++◌, length, get_or, take, drop, Some, sym, refl, ap, ◌∙◌, inl, inr, arith}
+use Rattle.std.proofs.Common.{◌≡◌, ℕ, ◌+◌, ◌-◌, ◌*◌, ◌<◌, ◌≤◌, min, List, length, get_or, take, drop, set, Some, sym, refl, ap, ◌∙◌, inl, inr, arith}
 use Rattle.std.specs.List.{slice_get}
 use Rattle.std.proofs.lemmas.Bool.{cases_lt}
 use Rattle.std.proofs.lemmas.Option.{slice_get-get_or}
-use Rattle.std.proofs.lemmas.List.{length-take-le, length-drop, take-append-le, get_or-take}
+use Rattle.std.proofs.lemmas.List.{length-take-le, length-drop, length-set, take-append-le, get_or-take}
 use Rattle.row.specs.Rings.{rings, room_of}
 use Rattle.row.specs.Row.{items, room, outside, order, block_end, Kept}
 use Rattle.std.specs.Borrow.{GName}
@@ -11,7 +11,7 @@ use borrow.Rule.Slice.PartMut.{put_mid}
 use Rattle.std.proofs.lemmas.Slice.{drop-put_mid}
 use Rattle.row.proofs.Lists.{length_put_mid}
 use Rattle.row.specs.declared.row.Row.{Row}
-use Rattle.row.proofs.Rings.{length-rings, rings-past, Block}
+use Rattle.row.proofs.Rings.{length-rings, rings-past, Block, length_block, parted}
 
 module _ {X : Type 0} where
   -- a row holds no more items than its room, and no room is larger than 32,768
@@ -75,5 +75,14 @@ module _ {X : Type 0} where
       let d : drop (room_of new.cells.now) new.cells.now ≡ drop m c = rw (same, e) (drop-put_mid a k c z m le (omega arith) lz) in
       record { len = n; cells = l; outside = ap (λ (v : GName). (v, drop (room_of new.cells.now) new.cells.now)) g ∙ ap (λ (t : List X). (old.cells.ghost_name, t)) d }
 
+  -- a write to one cell of a block
+  pub kept_set : (old new : Row X) {b s k : ℕ} (B : Block 256 old.heads old.cells.now b s k) (at : ℕ) (x : X) → new.len ≡ old.len → new.cells.ghost_name ≡ old.cells.ghost_name → new.cells.now ≡ set old.cells.now (s + at) x → at < k → s + k ≤ room_of old.cells.now → Kept old new
+  kept_set old new {b} {s} {k} B at x n g e al le =
+      let z = take k (drop s old.cells.now) in
+      kept_by old new n g s k (set z at x) (e ∙ parted B at x al) (length-set z at x ∙ length_block B) le
+
   pub kept_again : (r s t : Row X) → Kept r s → Kept s t → Kept r t
   kept_again r s t a b = record { len = b.len ∙ a.len; cells = b.cells ∙ a.cells; outside = b.outside ∙ a.outside }
+
+-- how long a row's lists are
+pub ruleset lengths = (length-items, length-order)

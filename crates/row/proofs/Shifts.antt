@@ -1,9 +1,10 @@
 -- What a shift of a run of cells leaves, and a cell put into or taken out of a ring.
-use Rattle.std.proofs.Common.{◌≡◌, ℕ, suc, ◌+◌, ◌-◌, ◌<◌, ◌≤◌, ◌⊎◌, List, [], ◌∷◌, ◌++◌, length, get_or, take, drop, set, sym, refl, ap, ◌∙◌, subst, inl, inr, add-one, arith}
+use Rattle.std.proofs.Common.{◌≡◌, ℕ, zero, suc, ◌+◌, ◌-◌, ◌<◌, ◌≤◌, ◌⊎◌, List, [], ◌∷◌, ◌++◌, length, get_or, take, drop, set, sym, refl, ap, ◌∙◌, subst, inl, inr, add-one, arith}
 use lib.Seq.{take-append-add, paste}
 use borrow.Rule.Slice.PartMut.{put_mid}
 use Rattle.std.specs.List.{insert}
 use Rattle.std.proofs.lemmas.List.{take_at, drop_at, set_at, append_assoc, append-nil, take-append-drop, drop_more, take_more, drop-drop, length-take-le, length-drop, length-append, nil_from_length, take_all, drop_all, set-set, set-get_or, get_or-set_same, drop-set, take-set, length-set}
+use Rattle.std.proofs.lemmas.List.Edits.{length-insert}
 use Rattle.row.proofs.Lists.{inserted_mid, length_put_mid, put_back}
 use Rattle.row.proofs.Rings.{length-ring}
 use Rattle.row.specs.Rings.{ring}
@@ -161,17 +162,27 @@ module _ {X : Type 0} where
       let f : insert (ring h (set z h x)) (length z) y ≡ ring h (set z h x) ++ y ∷ [] = inserted_end (ring h (set z h x)) (length z) y l in
       rw t (sym (append_assoc (x ∷ drop (h + 1) z) (take h z) (y ∷ [])) ∙ ap (λ (t : List X). t ++ y ∷ []) (sym r) ∙ sym f)
 
-  -- what a full ring took in at its front, moved on to a place
-  pub moved_on : (r s t : List X) (to n : ℕ) (x y w : X) → length s ≡ n → length t ≡ n → to < n → insert r 0 x ≡ insert s n y → insert s (to + 1) x ≡ insert t 0 w → insert r to x ≡ insert t n y
-  moved_on r [] t to n x y w ls lt l e f = absurd (omega arith)
-  moved_on r (v ∷ s) t to n x y w ls lt l e f =
-      let b : r ≡ s ++ y ∷ [] = ap (λ (u : List X). drop 1 u) (e ∙ inserted_end (v ∷ s) n y ls) in
-      let g : insert (v ∷ s) (suc to) x ≡ insert t 0 w = rw add-one at f in
-      let d : insert s to x ≡ t = ap (λ (u : List X). drop 1 u) g in
-      let z : 0 + to ≡ to = omega arith in
-      let m : insert (s ++ y ∷ []) (0 + to) x ≡ insert s to x ++ y ∷ [] = inserted_mid [] s (y ∷ []) 0 to x refl (omega arith) in
-      let m' : insert (s ++ y ∷ []) to x ≡ insert s to x ++ y ∷ [] = rw z at m in
-      ap (λ (u : List X). insert u to x) b ∙ m' ∙ ap (λ (u : List X). u ++ y ∷ []) d ∙ sym (inserted_end t n y lt)
+  insert_twice : (l : List X) (i j : ℕ) (x y : X) → i ≤ j → j ≤ length l → insert (insert l j y) i x ≡ insert (insert l i x) (suc j) y
+  insert_twice l zero j x y le lt = refl
+  insert_twice l (suc i) zero x y le lt = absurd (omega arith)
+  insert_twice [] (suc i) (suc j) x y le lt = absurd (omega arith)
+  insert_twice (v ∷ l) (suc i) (suc j) x y le lt = ap (λ (t : List X). v ∷ t) (insert_twice l i j x y (omega arith) (omega arith))
+
+  -- what went in at s, and let y out at e, moved on to a place between them
+  pub moved_on : (l m n : List X) (s to e : ℕ) (x y w : X) → s ≤ to → to < e → e ≤ length m → insert l s x ≡ insert m e y → insert m (suc to) x ≡ insert n s w → insert l to x ≡ insert n e y
+  moved_on l m n s to zero x y w le lt le' f g = absurd (omega arith)
+  moved_on l [] n s to (suc e) x y w le lt le' f g = absurd (omega arith)
+  moved_on l (v ∷ m) n zero to (suc e) x y w le lt le' f g =
+      let a : l ≡ insert m e y = ap (λ (t : List X). drop 1 t) f in
+      let b : n ≡ insert m to x = sym (ap (λ (t : List X). drop 1 t) g) in
+      rw (a, b) (insert_twice m to e x y (omega arith) (omega arith))
+  moved_on l (v ∷ m) n (suc s) zero (suc e) x y w le lt le' f g = absurd (omega arith)
+  moved_on [] (v ∷ m) n (suc s) (suc to) (suc e) x y w le lt le' f g = absurd (let k = ap length f in omega (arith, length-insert m e y))
+  moved_on (u ∷ l) (v ∷ m) [] (suc s) (suc to) (suc e) x y w le lt le' f g = absurd (let k = ap length g in omega (arith, length-insert m (suc to) x))
+  moved_on (u ∷ l) (v ∷ m) (t ∷ n) (suc s) (suc to) (suc e) x y w le lt le' f g =
+      let i = moved_on l m n s to e x y w (omega arith) (omega arith) (omega arith) (ap (λ (t : List X). drop 1 t) f) (ap (λ (t : List X). drop 1 t) g) in
+      let h : u ≡ t = cc in
+      rw h (ap (λ (r : List X). t ∷ r) i)
 
   -- a full ring takes x in at its end, and lets its first cell out: one write, and the head moves on
   pub back_in : (z : List X) (h : ℕ) (x y : X) → h < length z → y ≡ get_or z h y → insert (ring h z) (length z) x ≡ insert (ring (h + 1) (set z h x)) 0 y

@@ -1,5 +1,5 @@
 -- A search by halves: what the entries before and behind a window are.
-use Rattle.std.proofs.Common.{◌≡◌, ℕ, zero, suc, ◌+◌, ◌-◌, ◌*◌, ◌^◌, ◌<◌, ◌≤◌, Bool, true, false, cond, ◌⊎◌, List, [], ◌∷◌, length, get_or, take, count_by, sym, refl, ap, ◌∙◌, subst, inl, inr, zero-mul, add-one, arith, pow-add}
+use Rattle.std.proofs.Common.{◌≡◌, ℕ, zero, suc, ◌+◌, ◌-◌, ◌*◌, ◌^◌, ◌<◌, ◌≤◌, Bool, true, false, cond, ◌⊎◌, List, [], ◌∷◌, length, get_or, take, count_by, sym, refl, ap, ◌∙◌, subst, inl, inr, zero-mul, add-one, arith, pow-add, pow_pos}
 use denote.Ref.{Bor}
 use denote.Param.Members.{MutLaws}
 use Rattle.std.specs.Fn.{Mut, ComputesKey}
@@ -25,6 +25,9 @@ pow_half j lt =
     let z : 1 + (j - 1) ≡ j = omega arith in
     let b : 2 ^ j ≡ 2 ^ 1 * 2 ^ (j - 1) = rw z at a in
     b ∙ omega arith
+
+-- powers of two in a search by halves
+pub ruleset halves = (pow_half, pow_pos, bit_le)
 
 -- what a call of a closure that computes p gives
 pub computed : {F X : Type 0} {g : Mut F (Bor X × Unit {0}) Bool} (l : MutLaws g) (p : X → Bool) {f : F} {x : Bor X} {r : Bool} → ComputesKey g p f → g.post f (x, tt) r → r ≡ p x.now

@@ -1,8 +1,9 @@
 -- What a row holds.
 use Rattle.std.specs.Prelude.{◌≡◌, ℕ, ◌+◌, ◌*◌, min, List, length, take, drop}
 use Rattle.std.specs.Borrow.{GName}
-use Rattle.row.specs.Rings.{rings, first_items, room_of}
+use Rattle.row.specs.Rings.{ring, rings, first_items, room_of}
 use Rattle.row.specs.declared.row.Row.{Row}
+use Rattle.row.specs.declared.row.search.Ring.{Ring}
 
 -- the most items that it can hold
 unfoldable pub room : {T : Type 0} → Row T → ℕ
@@ -23,6 +24,10 @@ order r = rings 256 r.heads r.cells.now
 -- where block b ends
 abbrev pub block_end : {T : Type 0} → Row T → ℕ → ℕ
 block_end r b = min (b * 256 + 256) (room_of r.cells.now)
+
+-- the cells of a ring in the order of their items
+abbrev pub turned : {T : Type 0} → Ring T → List T
+turned r = ring r.head r.cells.now
 
 -- what a change of items within a block keeps
 pub record Kept {T : Type 0} (old new : Row T) : Type 0 where

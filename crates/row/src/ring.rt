@@ -14,7 +14,7 @@ fn move_up<T: Copy>(run: &mut [T])
 }
 
 // Puts `x` before a run of cells, which move one place up, and gives back the last of them, which falls out.
-fn shift_right<T: Copy>(run: &mut [T], x: T) -> T
+fn push_front<T: Copy>(run: &mut [T], x: T) -> T
     ensures { x ∷ run.old ≡ run.new ++ result ∷ [] }
 {
     let n = run.len();
@@ -28,7 +28,7 @@ fn shift_right<T: Copy>(run: &mut [T], x: T) -> T
 }
 
 // Puts `x` behind a run of cells, which move one place down, and gives back the first of them, which falls out.
-fn shift_left<T: Copy>(run: &mut [T], x: T) -> T
+fn push_back<T: Copy>(run: &mut [T], x: T) -> T
     ensures { run.old ++ x ∷ [] ≡ result ∷ run.new }
 {
     let n = run.len();
@@ -41,8 +41,8 @@ fn shift_left<T: Copy>(run: &mut [T], x: T) -> T
     out
 }
 
-// Puts `x` at place `to`; the items from there up to `stop` move one place up, and the last of them falls out.
-fn insert_shift<T: Copy>(block: &mut [T], head: usize, to: usize, stop: usize, x: T) -> T
+/// Puts `x` at place `to`; the items from there up to `stop` move one place up, and the last of them falls out.
+pub(crate) fn shift_up<T: Copy>(block: &mut [T], head: usize, to: usize, stop: usize, x: T) -> T
     requires head { head ≤ length block.old }
     requires forward { to ≤ stop }
     requires within { stop ≤ length block.old }
@@ -51,17 +51,17 @@ fn insert_shift<T: Copy>(block: &mut [T], head: usize, to: usize, stop: usize, x
     let n = block.len();
     let near = n - head;
     if stop <= near {
-        shift_right(&mut block[head + to..head + stop], x)
+        push_front(&mut block[head + to..head + stop], x)
     } else if to < near {
-        let carried = shift_right(&mut block[head + to..n], x);
-        shift_right(&mut block[0..stop - near], carried)
+        let carried = push_front(&mut block[head + to..n], x);
+        push_front(&mut block[0..stop - near], carried)
     } else {
-        shift_right(&mut block[to - near..stop - near], x)
+        push_front(&mut block[to - near..stop - near], x)
     }
 }
 
 /// Takes out the item at place `to`; those behind it, up to `stop`, move one place down, and `x` follows them.
-pub(crate) fn remove_shift<T: Copy>(block: &mut [T], head: usize, to: usize, stop: usize, x: T) -> T
+pub(crate) fn shift_down<T: Copy>(block: &mut [T], head: usize, to: usize, stop: usize, x: T) -> T
     requires head { head ≤ length block.old }
     requires forward { to ≤ stop }
     requires within { stop ≤ length block.old }
@@ -70,63 +70,11 @@ pub(crate) fn remove_shift<T: Copy>(block: &mut [T], head: usize, to: usize, sto
     let n = block.len();
     let near = n - head;
     if stop <= near {
-        shift_left(&mut block[head + to..head + stop], x)
+        push_back(&mut block[head + to..head + stop], x)
     } else if to < near {
-        let carried = shift_left(&mut block[0..stop - near], x);
-        shift_left(&mut block[head + to..n], carried)
+        let carried = push_back(&mut block[0..stop - near], x);
+        push_back(&mut block[head + to..n], carried)
     } else {
-        shift_left(&mut block[to - near..stop - near], x)
+        push_back(&mut block[to - near..stop - near], x)
     }
-}
-
-/// Puts `x` before the items of a full ring, the last of which falls out: one write, and the head moves back.
-pub(crate) fn rotate_in_front<T: Copy>(block: &mut [T], head: usize, x: T) -> (usize, T)
-    requires { head < length block.old }
-    ensures head { result.0 < length block.old }
-    ensures cells { insert (ring head block.old) 0 x ≡ insert (ring result.0 block.new) (length block.old) result.1 }
-{
-    let back = if head == 0 { block.len() - 1 } else { head - 1 };
-    let out = block[back];
-    block[back] = x;
-    (back, out)
-}
-
-// Puts `x` at place `to` of a full ring, the last item of which falls out: the head moves back, and the items before
-// `to` move down to it.
-fn rotate_in<T: Copy>(block: &mut [T], head: usize, to: usize, x: T) -> (usize, T)
-    requires head { head < length block.old }
-    requires place { to < length block.old }
-    ensures head { result.0 < length block.old }
-    ensures cells { insert (ring head block.old) to x ≡ insert (ring result.0 block.new) (length block.old) result.1 }
-{
-    let (back, out) = rotate_in_front(block, head, x);
-    let _ = remove_shift(block, back, 0, to + 1, x);
-    (back, out)
-}
-
-/// Puts `x` at place `to` of a full ring, the last item of which falls out: the items on the shorter side of `to` move.
-pub(crate) fn insert<T: Copy>(block: &mut [T], head: usize, to: usize, x: T) -> (usize, T)
-    requires head { head < length block.old }
-    requires place { to < length block.old }
-    ensures head { result.0 < length block.old }
-    ensures cells { insert (ring head block.old) to x ≡ insert (ring result.0 block.new) (length block.old) result.1 }
-{
-    let n = block.len();
-    if to < n / 2 {
-        rotate_in(block, head, to, x)
-    } else {
-        (head, insert_shift(block, head, to, n, x))
-    }
-}
-
-/// Puts `x` behind the items of a full ring, the first of which falls out: one write, and the head moves on.
-pub(crate) fn rotate_in_back<T: Copy>(block: &mut [T], head: usize, x: T) -> (usize, T)
-    requires { head < length block.old }
-    ensures head { result.0 < length block.old }
-    ensures cells { insert (ring head block.old) (length block.old) x ≡ insert (ring result.0 block.new) 0 result.1 }
-{
-    let out = block[head];
-    block[head] = x;
-    let next = if head + 1 < block.len() { head + 1 } else { 0 };
-    (next, out)
 }

@@ -38,62 +38,91 @@ impl<T: Copy> Row<'_, T> {
         start + at
     }
 
-    /// Puts `x` at place `i`; the items from there on move one place up within their block, the last of which falls out.
-    pub(super) fn insert_within(&mut self, i: usize, x: T) -> T
-        requires { i < room self.old }
-        ensures kept { Kept self.old self.new }
-        ensures items { insert (order self.old) i x ≡ insert (order self.new) (block_end self.old (i / 256)) result }
-    {
-        let b = i / BLOCK;
-        let (start, end) = self.block(b);
-        let Row { cells, heads, .. } = self;
-        let (head, out) = ring::insert(&mut cells[start..end], heads[b] as usize, i - start, x);
-        heads[b] = head as u16;
-        out
-    }
-
-    /// Puts `x` before the items of block `b`, the last of which falls out.
+    /// Puts `x` before the items of block `b`, the last of which falls out: one write, and the head moves back.
     pub(super) fn rotate_in_front(&mut self, b: usize, x: T) -> T
         requires { b * 256 < room self.old }
         ensures kept { Kept self.old self.new }
         ensures items { insert (order self.old) (b * 256) x ≡ insert (order self.new) (block_end self.old b) result }
     {
         let (start, end) = self.block(b);
-        let Row { cells, heads, .. } = self;
-        let (head, out) = ring::rotate_in_front(&mut cells[start..end], heads[b] as usize, x);
-        heads[b] = head as u16;
+        let head = self.heads[b] as usize;
+        let back = if head == 0 { end - start - 1 } else { head - 1 };
+        self.heads[b] = back as u16;
+        let at = start + back;
+        let out = self.cells[at];
+        self.cells[at] = x;
         out
     }
 
-    /// Puts `x` behind the items of block `b`, the first of which falls out.
+    /// Puts `x` behind the items of block `b`, the first of which falls out: one write, and the head moves on.
     pub(super) fn rotate_in_back(&mut self, b: usize, x: T) -> T
         requires { b * 256 < room self.old }
         ensures kept { Kept self.old self.new }
         ensures items { insert (order self.old) (block_end self.old b) x ≡ insert (order self.new) (b * 256) result }
     {
         let (start, end) = self.block(b);
-        let Row { cells, heads, .. } = self;
-        let (head, out) = ring::rotate_in_back(&mut cells[start..end], heads[b] as usize, x);
-        heads[b] = head as u16;
+        let head = self.heads[b] as usize;
+        let next = if start + head + 1 < end { head + 1 } else { 0 };
+        self.heads[b] = next as u16;
+        let at = start + head;
+        let out = self.cells[at];
+        self.cells[at] = x;
         out
     }
 
-    /// Takes out the item at place `i`; those behind it in its block move one place down, and `x` follows them.
-    pub(super) fn remove_within(&mut self, i: usize, x: T) -> T
-        requires { i < self.old.len }
+    /// Puts `x` at place `i`; the items from there up to `stop` in its block move one place up, and the last of them falls out.
+    fn shift_up(&mut self, i: usize, stop: usize, x: T) -> T
+        requires room { i < room self.old }
+        requires forward { i ≤ stop }
+        requires within { stop ≤ block_end self.old (i / 256) }
         ensures kept { Kept self.old self.new }
-        ensures items { insert (order self.old) (min self.old.len (block_end self.old (i / 256))) x ≡ insert (order self.new) i result }
+        ensures items { insert (order self.old) i x ≡ insert (order self.new) stop result }
     {
         let b = i / BLOCK;
         let (start, end) = self.block(b);
-        let stop = self.len.min(end);
         let Row { cells, heads, .. } = self;
-        ring::remove_shift(
+        ring::shift_up(
             &mut cells[start..end],
             heads[b] as usize,
             i - start,
             stop - start,
             x,
         )
+    }
+
+    /// Takes out the item at place `i`; those behind it in its block, up to `stop`, move one place down, and `x` follows them.
+    pub(super) fn shift_down(&mut self, i: usize, stop: usize, x: T) -> T
+        requires room { i < room self.old }
+        requires forward { i ≤ stop }
+        requires within { stop ≤ block_end self.old (i / 256) }
+        ensures kept { Kept self.old self.new }
+        ensures items { insert (order self.old) stop x ≡ insert (order self.new) i result }
+    {
+        let b = i / BLOCK;
+        let (start, end) = self.block(b);
+        let Row { cells, heads, .. } = self;
+        ring::shift_down(
+            &mut cells[start..end],
+            heads[b] as usize,
+            i - start,
+            stop - start,
+            x,
+        )
+    }
+
+    /// Puts `x` at place `i`, and lets the last item of its block out: the items on the shorter side of `i` move.
+    pub(super) fn insert_within(&mut self, i: usize, x: T) -> T
+        requires { i < room self.old }
+        ensures kept { Kept self.old self.new }
+        ensures items { insert (order self.old) i x ≡ insert (order self.new) (block_end self.old (i / 256)) result }
+    {
+        let (start, end) = self.block(i / BLOCK);
+        if i - start < (end - start) / 2 {
+            let out = self.rotate_in_front(i / BLOCK, x);
+            let _ = self.shift_down(start, i + 1, x);
+            out
+        } else {
+            self.shift_up(i, end, x)
+        }
     }
 }

@@ -1,5 +1,5 @@
 // The items of a row: reads and changes.
-#![tactic(auto, unfolding(crate::specs::Row::room))]
+#![tactic(auto, using(crate::proofs::Rooms::lengths), unfolding(crate::specs::Row::room))]
 
 ghost use Rattle.std.specs.Prelude.{◌≡◌, true, false, ◌&&◌, [], length, None, nat_le, nat_lt, slice_set};
 ghost use Rattle.std.specs.List.{insert, remove, slice_get};
@@ -80,7 +80,8 @@ impl<T: Copy> Row<'_, T> {
         for b in (i / BLOCK + 1..(self.len - 1) / BLOCK + 1).rev() {
             carried = self.rotate_in_back(b, carried);
         }
-        let out = self.remove_within(i, carried);
+        let (_, end) = self.block(i / BLOCK);
+        let out = self.shift_down(i, self.len.min(end), carried);
         self.len -= 1;
         Some(out)
     }

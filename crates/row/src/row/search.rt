@@ -1,16 +1,23 @@
 // The partition point of the items: a search by halves with no branch on an item, first among blocks and then in one.
-#![tactic(auto, unfolding(crate::specs::Row::room))]
+#![tactic(auto, using(crate::proofs::Windows::halves), unfolding(crate::specs::Row::room))]
 
 ghost use Rattle.std.specs.Prelude.{◌≡◌, ℕ, ◌+◌, ◌*◌, ◌^◌, ◌<◌, ◌≤◌, Bool, length, if◌then◌else◌, count_by, slice_index_or};
 ghost use Rattle.std.specs.Fn.{ComputesKey};
 ghost use Rattle.row.specs.Partition.{Partitioned, PartitionedTo, Window};
-ghost use Rattle.row.specs.Rings.{ring};
 
 use super::Row;
 use super::blocks::BLOCK;
 
+// One block, from its head on and round its end.
+#[derive(Drop)]
+struct Ring<'a, T> {
+    cells: &'a [T],
+    head: usize,
+    ghost within: { head < length cells.now },
+}
+
 impl<T: Copy> Row<'_, T> {
-    ghost use Rattle.row.specs.Row.{items, room, order};
+    ghost use Rattle.row.specs.Row.{items, room, order, block_end, turned};
 
     /// How many items satisfy `pred`, if those that do all stand before those that do not.
     pub fn partition_point<F: Fn(&T) -> bool>(&self, pred: F) -> usize
@@ -22,9 +29,23 @@ impl<T: Copy> Row<'_, T> {
             return 0;
         }
         let b = self.find_block(&pred);
+        let start = b * BLOCK;
+        let ring = self.ring(b);
+        let n = ring.cells.len().min(self.len - start);
+        start + ring.partition_point(n, &pred)
+    }
+
+    // Block `b`.
+    fn ring(&self, b: usize) -> Ring<'_, T>
+        requires { b * 256 < room self.now }
+        ensures size { b * 256 + length result.cells.now ≡ block_end self.now b }
+        ensures items { (i : ℕ) (d : T) → i < length result.cells.now → slice_index_or (order self.now) (b * 256 + i) d ≡ slice_index_or (turned result) i d }
+    {
         let (start, end) = self.block(b);
-        let n = self.len.min(end) - start;
-        start + ring_partition_point(&self.cells[start..end], self.heads[b] as usize, n, &pred)
+        Ring {
+            cells: &self.cells[start..end],
+            head: self.heads[b] as usize,
+        }
     }
 
     // The block in which the items that satisfy `pred` end.
@@ -58,43 +79,40 @@ impl<T: Copy> Row<'_, T> {
     }
 }
 
-// How many of the first `n` items of a ring satisfy `pred`.
-fn ring_partition_point<T: Copy, F: Fn(&T) -> bool>(
-    block: &[T],
-    head: usize,
-    n: usize,
-    pred: &F,
-) -> usize
-    requires callable { F.IsAlwaysCallable pred.now }
-    requires some { 0 < n }
-    requires room { n ≤ length block.now }
-    requires head { head ≤ length block.now }
-    ensures within { result ≤ n }
-    ensures window { (p : T → Bool) → ComputesKey F.Fn p pred.now → PartitionedTo p (ring head block.now) n → Window p (ring head block.now) n result result }
-{
-    let turns = n.ilog2();
-    let width = power(turns);
-    let mut low = if pred(&ring_item(block, head, width - 1)) {
-        n - width
-    } else {
-        0
-    };
-    for j in (0..turns).rev() {
-        let half = power(j);
-        low += power_if(pred(&ring_item(block, head, low + half - 1)), j);
-    }
-    low + power_if(pred(&ring_item(block, head, low)), 0)
-}
+impl<T: Copy> Ring<'_, T> {
+    ghost use Rattle.row.specs.Row.{turned};
 
-// The item at place `i` of a ring.
-fn ring_item<T: Copy>(block: &[T], head: usize, i: usize) -> T
-    requires place { i < length block.now }
-    requires head { head ≤ length block.now }
-    ensures { (d : T) → result ≡ slice_index_or (ring head block.now) i d }
-{
-    let near = block.len() - head;
-    let at = if i < near { head + i } else { i - near };
-    block[at]
+    // How many of the first `n` items satisfy `pred`.
+    fn partition_point<F: Fn(&T) -> bool>(&self, n: usize, pred: &F) -> usize
+        requires callable { F.IsAlwaysCallable pred.now }
+        requires some { 0 < n }
+        requires room { n ≤ length self.now.cells.now }
+        ensures within { result ≤ n }
+        ensures window { (p : T → Bool) → ComputesKey F.Fn p pred.now → PartitionedTo p (turned self.now) n → Window p (turned self.now) n result result }
+    {
+        let turns = n.ilog2();
+        let width = power(turns);
+        let mut low = if pred(&self.at(width - 1)) {
+            n - width
+        } else {
+            0
+        };
+        for j in (0..turns).rev() {
+            let half = power(j);
+            low += power_if(pred(&self.at(low + half - 1)), j);
+        }
+        low + power_if(pred(&self.at(low)), 0)
+    }
+
+    // The item at place `i`.
+    fn at(&self, i: usize) -> T
+        requires { i < length self.now.cells.now }
+        ensures { (d : T) → result ≡ slice_index_or (turned self.now) i d }
+    {
+        let near = self.cells.len() - self.head;
+        let at = if i < near { self.head + i } else { i - near };
+        self.cells[at]
+    }
 }
 
 fn power(j: u32) -> usize

@@ -1,4 +1,4 @@
-use Rattle.std.proofs.Common.{◌≡◌, ◌+◌, ◌*◌, ◌<◌, length, get_or, sym, refl, ◌∙◌, inl, arith}
+use Rattle.std.proofs.Common.{◌+◌, ◌*◌, ◌<◌, length, get_or, sym, refl, ◌∙◌, inl, arith}
 use Rattle.std.proofs.lemmas.List.{get_or_default}
 use Rattle.row.specs.Row.{room, block_end}
 use Rattle.row.proofs.Rooms.{block_in}

@@ -18,10 +18,6 @@ loop-j-init g c =
       λ p k part. first_block p (order c.args.self.now) n 256 h m c.if-pred.b c.block_first.result t part (omega arith) c.block_first.ensures (computed g.met.F.FnMut.1 p k c.pred.ensures) (omega arith) (omega arith) l,
     )
 
-pub block_first-requires-in-loop-j : goal.block_first-requires-in-loop-j
-unfolding room
-block_first-requires-in-loop-j g c = let q = pow_half c.loop-j.j (omega arith) in let pp = pow_pos (c.loop-j.j - 1) in omega (arith, c.args.self.now.fits)
-
 pub loop-j-preserved : goal.loop-j-preserved
 loop-j-preserved g c =
     let q = pow_half c.loop-j.j (omega arith) in

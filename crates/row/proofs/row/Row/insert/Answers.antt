@@ -1,7 +1,6 @@
 use Rattle.std.proofs.Common.{◌≡◌, ◌+◌, ◌*◌, ◌/◌, List, length, sym, refl, ap, ◌∙◌, arith}
 use Rattle.std.specs.List.{insert}
 use Rattle.row.specs.Row.{room, outside, order, block_end}
-use Rattle.row.proofs.Cascade.{Pending}
 use Rattle.row.proofs.Lists.{grown}
 use Rattle.row.proofs.Rooms.{length-items, length-order, items-order, kept_again}
 use Rattle.row.proofs.row.Row.insert.Goals as goal
@@ -17,14 +16,6 @@ loop-b-init g c =
       kept = k;
       left = record { at = block_end r (c.args.i / 256); after = omega arith; before = omega arith; within = omega arith; is = sym f.ensures.items };
     }
-
-pub rotate_in_front-carried-requires : goal.rotate_in_front-carried-requires
-unfolding room
-rotate_in_front-carried-requires g c =
-    let a = c.insert_within-carried.ensures.kept in
-    let k = c.loop-b.invariant.kept in
-    let l = length-items c.args.self.now in
-    omega arith
 
 pub loop-b-preserved : goal.loop-b-preserved
 unfolding room

@@ -1,19 +1,16 @@
-use Rattle.std.proofs.Common.{◌≡◌, ◌-◌, ◌/◌, length, take, drop, refl, ◌∙◌, arith}
-use Rattle.row.specs.Row.{room, block_end}
-use Rattle.row.proofs.Rooms.{block_in, kept_by}
-use Rattle.row.proofs.Rings.{length_block, passed}
+use Rattle.std.proofs.Common.{◌≡◌, ◌+◌, ◌*◌, ◌/◌, suc, length, add-one, arith}
+use Rattle.std.specs.List.{insert}
+use Rattle.row.specs.Row.{room, order, block_end}
+use Rattle.row.proofs.Rooms.{length-order}
+use Rattle.row.proofs.Shifts.{moved_on}
 use Rattle.row.proofs.row.Row.insert_within.Goals as goal
 
-pub returns : goal.returns
+pub returns-then-i-start-clause-items : goal.returns-then-i-start-clause-items
 unfolding room
-returns g c =
+returns-then-i-start-clause-items g c =
     let r = c.args.self.now in
-    let (s, e) = c.block-start.result in
-    let f = c.insert-head in
-    let B = block_in r (c.args.i / 256) s e (omega arith) c.block-start.ensures.start c.block-start.ensures.end in
-    let l0 = length_block B in
-    let lz : length f.new.block ≡ e - s = f.auto.block ∙ l0 in
-    record {
-      kept = kept_by r _ refl refl s (e - s) f.new.block refl lz (omega arith);
-      items = passed B f.result.0 (c.args.i - s) (length (take (e - s) (drop s r.cells.now))) c.args.i (block_end r (c.args.i / 256)) f.new.block c.args.x f.result.1 lz (omega arith) (omega arith) (omega arith) (omega arith) f.ensures.cells;
-    }
+    let i = c.args.i in
+    let f = c.rotate_in_front-out in
+    let t = c.shift_down in
+    let m : insert (order f.new.self) (suc i) c.args.x ≡ insert (order t.new.self) (i / 256 * 256) t.result = rw (add-one, c.block-start.ensures.start) at t.ensures.items in
+    moved_on (order r) (order f.new.self) (order t.new.self) (i / 256 * 256) i (block_end r (i / 256)) c.args.x f.result t.result (omega arith) (omega arith) (omega (arith, length-order f.new.self, f.ensures.kept.cells)) f.ensures.items m

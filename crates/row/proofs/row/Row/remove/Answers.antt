@@ -1,4 +1,4 @@
-use Rattle.std.proofs.Common.{◌≡◌, ◌+◌, ◌-◌, ◌*◌, ◌/◌, ◌≤◌, min, List, length, get_or, take, Some, sym, refl, ap, ◌∙◌, arith}
+use Rattle.std.proofs.Common.{◌≡◌, ◌-◌, ◌*◌, ◌/◌, ◌≤◌, min, List, length, get_or, take, Some, sym, refl, ap, ◌∙◌, arith}
 use Rattle.std.specs.List.{remove}
 use Rattle.std.proofs.lemmas.Option.{slice_get_past, slice_get-get_or}
 use Rattle.std.proofs.lemmas.List.{length-take-le}
@@ -14,9 +14,6 @@ returns-then-len-i g c =
     let i = c.args.i in
     record { answer = sym (slice_get_past xs i (omega arith)); effect = sym (removed_past xs i (omega arith)); refused = λ _. refl; room = refl; outside = refl }
 
-pub overflow_sub-b : goal.overflow_sub-b
-overflow_sub-b g c = omega (arith, length-items c.args.self.now)
-
 pub loop-b-init : goal.loop-b-init
 loop-b-init g c =
     let l = length-items c.args.self.now in
@@ -26,14 +23,6 @@ loop-b-init g c =
       high = omega arith;
       carried = carried_start (order c.args.self.now) _ _ c.args.self.now.len (omega arith);
     }
-
-pub rotate_in_back-carried-requires : goal.rotate_in_back-carried-requires
-unfolding room
-rotate_in_back-carried-requires g c =
-    let k = c.loop-b.invariant.kept in
-    let h = c.loop-b.invariant.high in
-    let l = length-items c.args.self.now in
-    omega (arith, c.args.self.now.fits)
 
 pub loop-b-preserved : goal.loop-b-preserved
 unfolding room
@@ -53,19 +42,13 @@ loop-b-preserved g c =
       carried = carried_step v.carried (order f.new.self) f.result (block_end s b) (b * 256) (omega (arith, r.fits)) (omega arith) (omega (arith, length-order s)) (omega (arith, v.high)) n f.ensures.items;
     }
 
-pub remove_within-out-requires : goal.remove_within-out-requires
-remove_within-out-requires g c = omega (arith, length-items c.args.self.now, c.loop-b.invariant.kept.len)
-
-pub overflow_sub-self : goal.overflow_sub-self
-overflow_sub-self g c = omega (arith, length-items c.args.self.now, c.loop-b.invariant.kept.len, c.remove_within-out.ensures.kept.len)
-
 pub returns : goal.returns
 unfolding room outside
 returns g c =
     let r = c.args.self.now in
     let s = c.loop-b.self in
     let i = c.args.i in
-    let f = c.remove_within-out in
+    let f = c.shift_down-out in
     let t = f.new.self in
     let v = c.loop-b.invariant in
     let k = kept_again r s t v.kept f.ensures.kept in
@@ -79,7 +62,7 @@ returns g c =
     let same = items-order r r.len h refl in
     let short : i ≤ length (take (r.len - 1) (order t)) = rw (length-take-le (r.len - 1) (order t) (omega (arith, r.fits, k.cells))) (omega arith) in
     let out = taken_out (take r.len (order r)) (take (r.len - 1) (order t)) i f.result short
-    (carried_end v.carried (min s.len (block_end s (i / 256))) (order t) i f.result
+    (carried_end v.carried c.min.result (order t) i f.result
     (omega (arith, v.low, r.fits)) (omega (arith, v.low)) (omega (arith, s.fits)) (omega arith) (omega (arith, r.fits, k.cells)) (omega arith) f.ensures.items) in
     record {
       answer = sym (slice_get-get_or (items r) i f.result (omega arith) ∙ ap (λ (y : _). Some y) (ap (λ (u : List _). get_or u i f.result) same ∙ sym (out.1 f.result)));

@@ -1,5 +1,5 @@
 use Rattle.row.proofs.Shifts.{down_none, down}
-use Rattle.row.proofs.ring.shift_left.Goals as goal
+use Rattle.row.proofs.ring.push_back.Goals as goal
 
 pub returns-then-n-eq0 : goal.returns-then-n-eq0
 returns-then-n-eq0 g c = down_none c.args.run.now c.args.x c.if-n-eq0.true

@@ -1,5 +1,5 @@
 use Rattle.row.proofs.Shifts.{up_none, up}
-use Rattle.row.proofs.ring.shift_right.Goals as goal
+use Rattle.row.proofs.ring.push_front.Goals as goal
 
 pub returns-then-n-eq0 : goal.returns-then-n-eq0
 returns-then-n-eq0 g c = up_none c.args.run.now c.args.x c.if-n-eq0.true
