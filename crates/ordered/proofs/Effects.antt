@@ -1,5 +1,5 @@
 -- What a call at a rank of a key's sequence does to sorted entries and to what they hold.
-use Rattle.std.proofs.Common.{not, ◌≡◌, ℕ, suc, ◌+◌, ◌<◌, ◌≤◌, Bool, true, false, cond, List, [], ◌∷◌, ◌++◌, length, get_or, take, drop, set, Some, sym, refl, ap, ◌∙◌, subst, ⊎_elim, add-one, arith}
+use Rattle.std.proofs.Common.{not, ◌≡◌, ℕ, suc, ◌+◌, ◌<◌, ◌≤◌, Bool, true, false, List, [], ◌∷◌, ◌++◌, length, get_or, take, drop, set, Some, sym, refl, ap, ◌∙◌, subst, ⊎_elim, add-one, arith}
 use Rattle.std.specs.List.{insert, remove, slice_get}
 use Rattle.std.proofs.lemmas.List.Sums.{count_by-le-length}
 use Rattle.std.proofs.lemmas.List.{take-append-drop, drop_more, set_split}
@@ -32,7 +32,7 @@ module _ {K V : Type 0} {less : K → K → Bool} (o : StrictOrder less) (es : L
       let b = stretch o es k in
       ⊎_elim (λ h. h) (λ h. absurd (both_ways (less k (get_or es i d).key) f (behind_place o es k i d s (omega arith) lt))) (cases_lt rank (length (sequence less (held less es) k)))
 
-  own : (d : Cell K V) → rank < length (sequence less (held less es) k) → (get_or es i d).key ≡ k
+  pub own : (d : Cell K V) → rank < length (sequence less (held less es) k) → (get_or es i d).key ≡ k
   own d lt = let b = stretch o es k in key_at o es k i d s (omega arith) (omega arith)
 
   pub absent : (d : Cell K V) → less k (get_or es i d).key ≡ true → length (sequence less (held less es) k) ≤ rank

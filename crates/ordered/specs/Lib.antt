@@ -1,3 +1,2 @@
 pub mod Sorted
-pub mod Found
 pub mod Store

@@ -6,7 +6,6 @@ use crate::cell::Cell;
 use keys::Key;
 use row::Row;
 
-mod edit;
 mod neighbours;
 mod store;
 
@@ -26,11 +25,10 @@ struct Found<V> {
 }
 
 impl<'a, K: Key, V: Copy> Ordered<'a, K, V> {
-    ghost use Rattle.std.specs.Prelude.{◌≡◌, ◌+◌, ◌<◌, ◌≤◌, min, [], length, drop, Some, MatchOption};
+    ghost use Rattle.std.specs.Prelude.{◌≡◌, ◌+◌, ◌<◌, ◌≤◌, min, [], length, drop, MatchOption, option_map};
     ghost use Rattle.std.specs.List.{slice_get};
     ghost use Rattle.chains.specs.Contents.{key_above};
     ghost use Rattle.chains.specs.State.{values};
-    ghost use Rattle.ordered.specs.Found.{keyed, found_value};
     ghost use Rattle.ordered.specs.Sorted.{smaller};
     ghost use Rattle.ordered.specs.Store.{entries, room_of, spare, state, StandsAt, GoesAt};
 
@@ -56,7 +54,7 @@ impl<'a, K: Key, V: Copy> Ordered<'a, K, V> {
     /// The place behind the key's last entry: there the next key with values stands.
     fn end(&self, key: K) -> usize
         ensures place { result ≡ smaller K.less (entries self.now) key + length (values K.less (state self.now) key) }
-        ensures next { keyed (slice_get (entries self.now) result) ≡ key_above K.less (state self.now).contents key }
+        ensures next { option_map (λ e. e.key) (slice_get (entries self.now) result) ≡ key_above K.less (state self.now).contents key }
     {
         self.row.partition_point(|cell| !key.is_less(&cell.key))
     }
@@ -67,18 +65,14 @@ impl<'a, K: Key, V: Copy> Ordered<'a, K, V> {
         ensures place { MatchOption result
             (length (values K.less (state self.now) key) ≤ rank)
             (λ f. StandsAt self.now key rank f.place) }
-        ensures value { found_value result ≡ slice_get (values K.less (state self.now) key) rank }
+        ensures value { option_map (λ f. f.value) result ≡ slice_get (values K.less (state self.now) key) rank }
     {
         let place = self.start(key).saturating_add(rank);
         let cell = self.row.get(place)?;
-        if key.is_less(&cell.key) {
-            None
-        } else {
-            Some(Found {
-                place,
-                value: cell.value,
-            })
-        }
+        (!key.is_less(&cell.key)).then_some(Found {
+            place,
+            value: cell.value,
+        })
     }
 
     /// The place at which a value of that rank goes in, or none where the rank exceeds the length.
@@ -96,7 +90,7 @@ impl<'a, K: Key, V: Copy> Ordered<'a, K, V> {
 
     /// The key of the entry at a place.
     fn key_at(&self, place: usize) -> Option<K>
-        ensures { result ≡ keyed (slice_get (entries self.now) place) }
+        ensures { result ≡ option_map (λ e. e.key) (slice_get (entries self.now) place) }
     {
         self.row.get(place).map(|cell| cell.key)
     }

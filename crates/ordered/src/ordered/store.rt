@@ -5,6 +5,7 @@ ghost use Rattle.ordered.specs.declared.cell.Cell.{Cell as Entry};
 ghost use Rattle.ordered.specs.Store.{spare, state as state_in};
 
 use super::Ordered;
+use crate::cell::Cell;
 use chains::{ChainStore, Refusal};
 use keys::Key;
 
@@ -34,20 +35,24 @@ impl<'a, K: Key, V: Copy> ChainStore for Ordered<'a, K, V> {
 
     fn put(&mut self, key: K, rank: usize, value: V) -> Result<(), Refusal> {
         let place = self.place_for(key, rank).ok_or(Refusal::PastEnd)?;
-        self.insert_at(place, key, rank, value)
+        if self.row.insert(place, Cell { key, value }) {
+            Ok(())
+        } else {
+            Err(Refusal::Full)
+        }
     }
 
     fn set(&mut self, key: K, rank: usize, value: V) -> bool {
         let Some(found) = self.find(key, rank) else {
             return false;
         };
-        self.replace_at(found.place, key, rank, value)
+        self.row.set(found.place, Cell { key, value })
     }
 
     fn take(&mut self, key: K, rank: usize) -> bool {
         let Some(found) = self.find(key, rank) else {
             return false;
         };
-        self.remove_at(found.place, key, rank)
+        self.row.remove(found.place).is_some()
     }
 }

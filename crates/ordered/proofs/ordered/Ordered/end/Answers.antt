@@ -1,7 +1,6 @@
-use Rattle.std.proofs.Common.{◌≡◌, ℕ, sym, ap, rules, ◌∙◌}
+use Rattle.std.proofs.Common.{◌≡◌, ℕ, option_map, sym, ap, rules, ◌∙◌}
 use Rattle.std.specs.List.{slice_get}
 use Rattle.std.proofs.lemmas.Fn.{always_returns_same}
-use Rattle.ordered.specs.Found.{keyed}
 use Rattle.ordered.specs.Sorted.{not_greater}
 use Rattle.ordered.specs.Store.{entries}
 use Rattle.ordered.proofs.Sorted.{not_greater-parts}
@@ -18,5 +17,5 @@ returns g c =
     c.partition_point.ensures.point _ (always_returns_same _ _ _ (λ a r f' h. search rules)) (not_greater-parts o (entries self) k self.sorted) in
     record {
       place = at ∙ sym (stretch o (entries self) k);
-      next = ap (λ (n : ℕ). keyed (slice_get (entries self) n)) at ∙ above_is o (entries self) k self.sorted;
+      next = ap (λ (n : ℕ). option_map (λ e. e.key) (slice_get (entries self) n)) at ∙ above_is o (entries self) k self.sorted;
     }

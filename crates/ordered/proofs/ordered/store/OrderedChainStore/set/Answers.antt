@@ -1,0 +1,12 @@
+use Rattle.std.proofs.Common.{rules}
+use Rattle.ordered.proofs.Calls.{same_store, set_sorts, set_does}
+use Rattle.ordered.proofs.ordered.store.OrderedChainStore.set.Goals as goal
+
+pub invariant_of-self : goal.invariant_of-self
+invariant_of-self g c = record { sorted = search (rules, set_sorts g.met.K.Key.order c.args.self.now c.args.key c.args.rank c.args.value) }
+
+pub returns-clause-effect : goal.returns-clause-effect
+returns-clause-effect g c = search (rules, set_does g.met.K.Key.order c.args.self.now c.args.key c.args.rank c.args.value)
+
+pub returns-clause-refused : goal.returns-clause-refused
+returns-clause-refused g c = λ f. same_store _ _ (search rules)
