@@ -18,8 +18,8 @@ pub struct Split<A: ChainStore, B: ChainStore<Key = A::Key, Value = A::Value>> {
 }
 
 impl<A: ChainStore, B: ChainStore<Key = A::Key, Value = A::Value>> Split<A, B> {
-    ghost use Rattle.std.specs.Prelude.{◌≡◌, ℕ, ◌≤◌, if◌then◌else◌};
-    ghost use Rattle.chains.specs.State.{values, emptied};
+    ghost use Rattle.std.specs.Prelude.{◌≡◌, ℕ, ◌≤◌};
+    ghost use Rattle.chains.specs.State.{emptied};
     ghost use Rattle.split.specs.Joined.{joined};
     ghost use Rattle.split.specs.Store.{state, outside};
 
@@ -38,7 +38,7 @@ impl<A: ChainStore, B: ChainStore<Key = A::Key, Value = A::Value>> Split<A, B> {
         }
     }
 
-    /// Whether the key belongs to the low store. The store that it belongs to has its values.
+    /// Whether the key belongs to the low store.
     fn is_low(&self, key: A::Key) -> bool
         ensures { A.Key.less key self.now.boundary ≡ result }
     {
