@@ -25,21 +25,17 @@ use Rattle.hashed.proofs.Effects.{sequence-parts, contents_after, valid_after}
 
 -- ---- how many entries there are
 
+nth_is : {X : Type 0} (xs : List X) (i : ℕ) → i < length xs → (x : X) × (slice_get xs i ≡ Some x)
+nth_is [] i l = absurd (omega arith)
+nth_is (x ∷ xs) zero l = (x, refl)
+nth_is (x ∷ xs) (suc i) l = nth_is xs i (omega arith)
+
 module _ {K V : Type 0} (n : ℕ) (cells : List (Cell K V)) (fits : n ≤ length cells) where
   collected-length : (xs : List ℕ) → AllByRecursion (λ x. x < n) xs → length (collected (entry_of cells) xs) ≡ length xs
   collected-length [] h = refl
-  collected-length (x ∷ xs) h = one x h.0 ∙ ap suc (collected-length xs h.1)
-    where
-      one : (x : ℕ) → x < n → length (onto (entry_of cells x) (collected (entry_of cells) xs)) ≡ suc (length (collected (entry_of cells) xs))
-      one x l = some cells (nth_is cells x (omega arith))
-        where
-          nth_is : (cs : List (Cell K V)) (i : ℕ) → i < length cs → (c : Cell K V) × (slice_get cs i ≡ Some c)
-          nth_is [] i l = absurd (omega arith)
-          nth_is (c ∷ cs) zero l = (c, refl)
-          nth_is (c ∷ cs) (suc i) l = nth_is cs i (omega arith)
-
-          some : (cs : List (Cell K V)) → ((c : Cell K V) × (slice_get cells x ≡ Some c)) → length (onto (entry_of cells x) (collected (entry_of cells) xs)) ≡ suc (length (collected (entry_of cells) xs))
-          some cs w = ap (λ (t : Option (Cell K V)). length (onto (entry_in t) (collected (entry_of cells) xs))) w.1
+  collected-length (x ∷ xs) h =
+      let l = h.0 in
+      ap (λ (t : Option (Cell K V)). length (onto (entry_in t) (collected (entry_of cells) xs))) (nth_is cells x (omega arith)).1 ∙ ap suc (collected-length xs h.1)
 
   entries-length : (m : ℕ) → ((b : ℕ) → b < m → AllByRecursion (λ x. x < n) (bucket_of n cells b)) → length (gathered (bucket_entries n cells) m) ≡ length (gathered (bucket_of n cells) m)
   entries-length zero h = refl

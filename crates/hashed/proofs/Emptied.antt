@@ -43,10 +43,6 @@ gathered_nil : {E : Type 0} (f : ℕ → List E) (n : ℕ) → ((b : ℕ) → b 
 gathered_nil f zero h = refl
 gathered_nil f (suc n) h = rw (h n (omega arith), gathered_nil f n (λ b l. h b (omega arith)))
 
-all_same : (n m : ℕ) → AllByRecursion (λ x. n ≡ n) (below m)
-all_same n zero = tt
-all_same n (suc m) = (refl, all_same n m)
-
 module _ {K V : Type 0} (n : ℕ) (cells : List (Cell K V)) (free : ℕ) (emptied : Emptied n cells (target n free) n) where
   no_cells : (b : ℕ) → b < n → bucket_of n cells b ≡ []
   no_cells b h = ap (walk (next_of n cells) n) (emptied.empty b h) ∙ walk_none (next_of n cells) n
@@ -63,7 +59,7 @@ module _ {K V : Type 0} (n : ℕ) (cells : List (Cell K V)) (free : ℕ) (emptie
       own = λ z. n;
       buckets = λ b h. subst (OwnList (λ z. n) n cells b (first_of n cells b)) (sym (no_cells b h)) (record { linked = emptied.empty b h; within = tt; owned = tt });
       unused = below n;
-      freed = record { linked = emptied.linked; within = all-below n n (omega arith); owned = all_same n n };
+      freed = record { linked = emptied.linked; within = all-below n n (omega arith); owned = All-weaker (λ z. z < n) (λ z. n ≡ n) (λ z q. refl) (below n) (all-below n n (omega arith)) };
       all = omega (arith, length-below n, ap length (gathered_nil (bucket_of n cells) n no_cells));
     },
     λ b h. subst (AllByRecursion (λ e. hash e.0 % n ≡ b)) (sym (no_entries b h)) tt,

@@ -1,5 +1,5 @@
 -- What is read from a cell, and what writes of cells leave.
-use Rattle.std.proofs.Common.{◌≡◌, ℕ, zero, suc, ◌<◌, ◌≤◌, true, false, cond, ltb, ◌≢◌, List, [], ◌∷◌, length, get_or, set, Some, None, Option, sym, refl, ap, ◌∙◌, subst, ⊎_elim, arith, length-set}
+use Rattle.std.proofs.Common.{◌≡◌, ℕ, zero, suc, ◌<◌, ◌≤◌, true, false, cond, ltb, ◌≢◌, List, [], ◌∷◌, length, get_or, set, Some, None, Option, sym, refl, ap, ◌∙◌, subst, ⊎_elim, arith, length-set, get_or-set_same}
 use Rattle.std.specs.List.{slice_get}
 use Rattle.std.proofs.lemmas.Option.{slice_get-get_or}
 use Rattle.std.proofs.lemmas.Bool.{cases_eq, cases_Bool, ltb-true, lt-ltb, le-ltb}
@@ -40,9 +40,7 @@ module _ {K V : Type 0} (n : ℕ) (cells : List (Cell K V)) (x : ℕ) (r : Cell 
 -- ---- one write
 
 nth_set_same : {X : Type 0} (xs : List X) (i : ℕ) (c : X) → i < length xs → slice_get (set xs i c) i ≡ Some c
-nth_set_same [] i c h = absurd (omega arith)
-nth_set_same (x ∷ xs) zero c h = refl
-nth_set_same (x ∷ xs) (suc i) c h = nth_set_same xs i c (omega arith)
+nth_set_same xs i c h = slice_get-get_or (set xs i c) i c (simp length-set h) ∙ ap Some (get_or-set_same xs i c c h)
 
 nth_set_other : {X : Type 0} (xs : List X) (i j : ℕ) (c : X) → j ≢ i → slice_get (set xs i c) j ≡ slice_get xs j
 nth_set_other [] i j c h = refl

@@ -19,8 +19,8 @@ loop-x-preserved g c =
     let step = walk_next g.K.Key.less n cells (bucket_of n cells c.args.bucket) c.args.key c.args.rank s.previous (target n s.link.0) s.passed s.invariant
     c.in-Some.x (r.key, r.value) at entry (target n r.next.0) c.if-is_same.passed in
     elim c.if-is_same.branch [
-      | then-is_same+else-passed-rank w ↦ step true within (sym c.is_same.ensures ∙ w.if-is_same.true) w.passed-is (omega (arith, s.invariant.most)) on
-      | else-is_same w ↦ step false within (sym c.is_same.ensures ∙ w.if-is_same.false) (omega arith) (omega (arith, s.invariant.most)) on
+      | then-is_same+else-passed-rank w ↦ step true within (cc) w.passed-is (omega (arith, s.invariant.most)) on
+      | else-is_same w ↦ step false within (cc) (omega arith) (omega (arith, s.invariant.most)) on
     ]
 
 pub loop-x-smaller : goal.loop-x-smaller
@@ -41,4 +41,4 @@ returns-then-passed-rank-clause-found g c =
     let at = sym c.in-Some.ensures in
     walk-found g.K.Key.less n cells (bucket_of n cells c.args.bucket) c.args.key c.args.rank s.previous (target n s.link.0) s.passed s.invariant
     c.in-Some.x (r.key, r.value) at (read_entry n cells c.in-Some.x r (target_in n s.link.0 c.in-Some.x at) c.index-cells-x.is)
-    (sym c.is_same.ensures ∙ c.if-is_same.true) c.if-passed-rank.true
+    (cc) c.if-passed-rank.true
