@@ -1,13 +1,14 @@
 -- Cells whose buckets are emptied one after the other.
-use Rattle.std.proofs.Common.{◌≡◌, ℕ, zero, suc, ◌+◌, ◌%◌, ◌<◌, ◌≤◌, ◌≢◌, List, [], length, set, Some, None, Option, sym, refl, ap, ◌∙◌, subst, ⊎_elim, add-one, arith}
+use Rattle.std.proofs.Common.{◌≡◌, ℕ, zero, suc, ◌+◌, ◌%◌, ◌<◌, ◌≤◌, ◌≢◌, List, [], ◌++◌, length, take, drop, set, Some, None, Option, sym, refl, ap, ◌∙◌, subst, ⊎_elim, add-one, arith}
 use Rattle.std.specs.List.{AllByRecursion}
 use Rattle.std.proofs.ByRecursion.{All-weaker}
 use Rattle.std.proofs.lemmas.Bool.{cases_eq}
 use Rattle.hashed.specs.declared.cell.Cell.{Cell}
 use Rattle.hashed.specs.declared.cell.Link.{Link}
 use Rattle.hashed.specs.Links.{walk, collected, gathered}
-use Rattle.hashed.specs.Cells.{target, next_in, first_in, next_of, first_of, entry_of, bucket_of, bucket_entries, entries_in, below, Emptied, OwnList, ValidCells}
+use Rattle.hashed.specs.Cells.{target, next_in, first_in, next_of, first_of, entry_of, bucket_of, bucket_entries, entries_in, below, room_of, used_of, Emptied, OwnList, ValidCells}
 use Rattle.hashed.proofs.Links.{linked-front}
+use Rattle.hashed.proofs.Used.{part-length, after}
 use Rattle.hashed.proofs.Writes.{target_of, target_none, set_here, set_there}
 
 all-below : (m n : ℕ) → m ≤ n → AllByRecursion (λ z. z < n) (below m)
@@ -64,3 +65,13 @@ module _ {K V : Type 0} (n : ℕ) (cells : List (Cell K V)) (free : ℕ) (emptie
     },
     λ b h. subst (AllByRecursion (λ e. hash e.0 % n ≡ b)) (sym (no_entries b h)) tt,
   )
+
+-- the lent cells, where those in use were emptied
+module _ {K V : Type 0} (hash : K → ℕ) (old : List (Cell K V)) (r : ℕ) (is : r ≡ room_of old) (xs : List (Cell K V)) (same : length xs ≡ length (take r old)) (free : ℕ)
+    (made : Emptied (length (take r old)) xs (target (length (take r old)) free) (length (take r old))) where
+  pub cleared : ValidCells hash (room_of (xs ++ drop r old)) (used_of (xs ++ drop r old)) free
+      × (entries_in (room_of (xs ++ drop r old)) (used_of (xs ++ drop r old)) ≡ []) × (room_of (xs ++ drop r old) ≡ room_of old)
+  cleared =
+      let e = subst (λ (n : ℕ). Emptied n xs (target n free) n) (part-length old r is) made in
+      after old r is (λ (n : ℕ) (cells : List (Cell K V)). ValidCells hash n cells free × (entries_in n cells ≡ []) × (n ≡ room_of old)) xs same
+      (emptied_valid (room_of old) xs free e hash, emptied-entries (room_of old) xs free e, refl)

@@ -28,7 +28,7 @@ pub record Walking {K V : Type 0} (less : K → K → Bool) (n : ℕ) (cells : L
 
 module _ {K V : Type 0} (less : K → K → Bool) (n : ℕ) (cells : List (Cell K V)) (xs : List ℕ) (k : K) (rank : ℕ) where
   pub walk_start : (l : Option ℕ) → Linked (next_of n cells) l xs → Walking less n cells xs k rank None l 0
-  walk_start l c = record { before = []; rest = xs; parts = refl; ahead = c; last = refl; near = λ y e. (let z : ◌≡◌ {A = ℕ} 0 1 = cc in absurd (omega arith)); count = refl; most = omega arith }
+  walk_start l c = record { before = []; rest = xs; parts = refl; ahead = c; last = refl; near = λ y e. absurd cc; count = refl; most = omega arith }
 
   -- what a cell adds to the values of the key
   gain : (o : Option (K × V)) (e : K × V) (t : Bool) → o ≡ Some e → same less e.0 k ≡ t → length (values_in less (onto o []) k) ≡ cond t 1 0
@@ -41,7 +41,7 @@ module _ {K V : Type 0} (less : K → K → Bool) (n : ℕ) (cells : List (Cell 
         record { before = s.before; rest = s.rest; parts = s.parts; at = linked_start (next_of n cells) here s.rest s.ahead; last = s.last; count = s.count; most = s.most; stops = stops }
 
     pub walk_end : here ≡ None → Found less cells xs k rank previous here passed
-    walk_end e = stopped (λ y q. let z : ◌≡◌ {A = ℕ} 0 1 = cc in absurd (omega arith))
+    walk_end e = stopped (λ y q. absurd cc)
 
     module _ (x : ℕ) (e : K × V) (at : here ≡ Some x) (is : entry_of cells x ≡ Some e) where
       pub walk-found : same less e.0 k ≡ true → passed ≡ rank → Found less cells xs k rank previous here passed

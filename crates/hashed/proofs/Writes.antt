@@ -13,7 +13,7 @@ pub target_in : (n l x : ℕ) → target n l ≡ Some x → x < n
 target_in n l x e =
     ⊎_elim
     (λ (t : ltb l n ≡ true). let s : target n l ≡ Some l = ap (λ b. cond b (Some l) None) t in let q : l ≡ x = cc in let h = ltb-true l n t in omega arith)
-    (λ (f : ltb l n ≡ false). let s : target n l ≡ None = ap (λ b. cond b (Some l) None) f in let z : ◌≡◌ {A = ℕ} 0 1 = cc in absurd (omega arith))
+    (λ (f : ltb l n ≡ false). let s : target n l ≡ None = ap (λ b. cond b (Some l) None) f in absurd cc)
     (cases_Bool (ltb l n))
 
 pub target_of : (n l x : ℕ) → l ≡ x → x < n → target n l ≡ Some x
