@@ -15,11 +15,11 @@ use Rattle.chains.proofs.Outcomes.{put_full, put_done, set_done, take_done}
 use Rattle.hashed.specs.declared.cell.Cell.{Cell}
 use Rattle.hashed.specs.declared.list.Place.{Place}
 use Rattle.hashed.specs.Links.{Linked, onto, collected, gathered, front}
-use Rattle.hashed.specs.Cells.{target, next_of, first_of, entry_of, entry_in, bucket_of, bucket_entries, entries_in, values_in, held, room_of, used_of, Placed, WellFormed, ValidCells, Relinked, Rewritten}
+use Rattle.hashed.specs.Cells.{target, next_of, first_of, entry_of, entry_in, bucket_of, bucket_entries, entries_in, values_in, held, room_of, used_of, Placed, WellFormed, ValidCells, Relinked}
 use Rattle.hashed.specs.Store.{state_of, InRange, PlaceOf}
 use Rattle.hashed.proofs.Links.{all_left, all_right, collected-append, first_left, walk-length}
 use Rattle.hashed.proofs.Used.{part-length, from_part, after}
-use Rattle.hashed.proofs.Writes.{target_in, rewritten}
+use Rattle.hashed.proofs.Writes.{target_in, Rewritten, rewritten}
 use Rattle.hashed.proofs.WellFormed.{Changed, put_apart, put_change, take_apart, take_change, set_change}
 use Rattle.hashed.proofs.Effects.{sequence-parts, contents_after, valid_after}
 

@@ -62,15 +62,9 @@ module _ {K V : Type 0} (less : K → K → Bool) (k : K) where
   gathered_only : (f : ℕ → List (K × V)) (n b : ℕ) → b < n → ((c : ℕ) → c < n → c ≢ b → values_in less (f c) k ≡ []) → values_in less (gathered f n) k ≡ values_in less (f b) k
   gathered_only f zero b h none = absurd (omega arith)
   gathered_only f (suc n) b h none =
-      values-append less (gathered f n) (f n) k
-      ∙ ⊎_elim
-      (λ (e : b ≡ n).
-      ap (λ (t : List V). t ++ values_in less (f n) k) (gathered_none f n (λ c l. none c (omega arith) (λ d. absurd (omega arith))))
-      ∙ ap (λ (m : ℕ). values_in less (f m) k) (sym e))
-      (λ (no : b ≢ n).
-      ap (λ (t : List V). values_in less (gathered f n) k ++ t) (none n (omega arith) (λ e. no (sym e)))
-      ∙ append-nil (values_in less (gathered f n) k)
-      ∙ gathered_only f n b (omega arith) (λ c l. none c (omega arith)))
+      ⊎_elim
+      (λ (e : b ≡ n). rw (values-append less (gathered f n) (f n) k, gathered_none f n (λ c l. none c (omega arith) (λ d. absurd (omega arith))), e))
+      (λ (no : b ≢ n). rw (values-append less (gathered f n) (f n) k, none n (omega arith) (λ e. no (sym e)), append-nil (values_in less (gathered f n) k)) (gathered_only f n b (omega arith) (λ c l. none c (omega arith))))
       (cases_eq b n)
 
 module _ {K V : Type 0} {less : K → K → Bool} (o : StrictOrder less) (hash : K → ℕ) (n : ℕ) where

@@ -5,7 +5,7 @@ use Rattle.std.proofs.lemmas.Option.{slice_get-get_or}
 use Rattle.std.proofs.lemmas.Bool.{cases_eq, cases_Bool, ltb-true, lt-ltb, le-ltb}
 use Rattle.hashed.specs.declared.cell.Cell.{Cell}
 use Rattle.hashed.specs.declared.cell.Link.{Link}
-use Rattle.hashed.specs.Cells.{target, next_in, first_in, entry_in, next_of, first_of, entry_of, Relinked, Rewritten}
+use Rattle.hashed.specs.Cells.{target, next_in, first_in, entry_in, next_of, first_of, entry_of, Relinked}
 
 -- ---- links
 
@@ -36,6 +36,13 @@ module _ {K V : Type 0} (n : ℕ) (cells : List (Cell K V)) (x : ℕ) (r : Cell 
 
   pub read_entry : entry_of cells x ≡ Some (r.key, r.value)
   read_entry = ap entry_in read_nth
+
+-- the cell that a link leads to
+pub reached : {K V : Type 0} (cells : List (Cell K V)) (l x : ℕ) (r : Cell K V) → target (length cells) l ≡ Some x → r ≡ get_or cells x r
+    → (x < length cells) × (entry_of cells x ≡ Some (r.key, r.value)) × (next_of (length cells) cells x ≡ target (length cells) r.next.0)
+reached cells l x r at is =
+    let h = target_in (length cells) l x at in
+    (h, read_entry (length cells) cells x r h is, read_next (length cells) cells x r h is)
 
 -- ---- one write
 
@@ -107,6 +114,13 @@ module _ {K V : Type 0} (n : ℕ) (cells : List (Cell K V)) (b x : ℕ) (cell d 
           λ z ne nz. set_there (next_in n) one y _ z nz ∙ set_there (next_in n) cells x cell z ne,
         );
       }
+
+-- the cell x holds another entry, and no link changes
+pub record Rewritten {K V : Type 0} (n : ℕ) (cells cells' : List (Cell K V)) (x : ℕ) (e : K × V) : Type 0 where
+  pub here : entry_of cells' x ≡ Some e
+  pub elsewhere : (z : ℕ) → z ≢ x → entry_of cells' z ≡ entry_of cells z
+  pub nexts : (z : ℕ) → next_of n cells' z ≡ next_of n cells z
+  pub firsts : (z : ℕ) → first_of n cells' z ≡ first_of n cells z
 
 -- another value in the cell x
 pub rewritten : {K V : Type 0} (n : ℕ) (cells : List (Cell K V)) (x : ℕ) (d : Cell K V) (v : V) → x < length cells → (e : K × V) → entry_of cells x ≡ Some e

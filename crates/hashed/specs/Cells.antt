@@ -109,13 +109,6 @@ pub record Relinked {K V : Type 0} (n : ℕ) (cells cells' : List (Cell K V)) (b
   pub onward : next_of n cells' x ≡ on
   pub links : Redirected n cells cells' b x previous to
 
--- the cell x holds another entry, and no link changes
-pub record Rewritten {K V : Type 0} (n : ℕ) (cells cells' : List (Cell K V)) (x : ℕ) (e : K × V) : Type 0 where
-  pub here : entry_of cells' x ≡ Some e
-  pub elsewhere : (z : ℕ) → z ≢ x → entry_of cells' z ≡ entry_of cells z
-  pub nexts : (z : ℕ) → next_of n cells' z ≡ next_of n cells z
-  pub firsts : (z : ℕ) → first_of n cells' z ≡ first_of n cells z
-
 -- the numbers below m, descending
 abbrev pub below : ℕ → List ℕ
 below zero = []
