@@ -4,7 +4,12 @@ use Rattle.std.specs.List.{AllByRecursion, slice_get}
 use Rattle.keys.specs.Order.{same}
 use Rattle.chains.specs.Entries.{values_under, contents_of}
 use Rattle.hashed.specs.declared.cell.Cell.{Cell}
+use Rattle.hashed.specs.declared.cell.Link.{Link}
 use Rattle.hashed.specs.Links.{walk, Linked, collected, gathered, LastIs, front}
+
+-- the link that leads to no cell, however many are in use
+abbrev pub nowhere : Link
+nowhere = record { 0 = 32768 }
 
 -- the cell that a link leads to; a number that is none of the n cells' ends the list
 abbrev pub target : ℕ → ℕ → Option ℕ
