@@ -7,7 +7,7 @@ use Rattle.std.proofs.lemmas.Option.{slice_get_past, slice_get-get_or}
 use Rattle.std.proofs.lemmas.Bool.{cases_lt}
 use Rattle.keys.specs.Order.{StrictOrder, same}
 use Rattle.chains.specs.Contents.{sequence, with_sequence}
-use Rattle.chains.specs.State.{with_values, put_outcome, set_outcome, take_outcome}
+use Rattle.chains.specs.State.{StoreState, with_values, put_outcome, set_outcome, take_outcome}
 use Rattle.chains.specs.declared.refusal.Refusal.TheVariants.{Full}
 use Rattle.chains.proofs.Entries.{contents-used, entry_put, entry-taken, entry_set}
 use Rattle.chains.proofs.Orders.{same_eq, same_refl}
@@ -15,31 +15,27 @@ use Rattle.chains.proofs.Outcomes.{put_full, put_done, set_done, take_done}
 use Rattle.hashed.specs.declared.cell.Cell.{Cell}
 use Rattle.hashed.specs.declared.list.Place.{Place}
 use Rattle.hashed.specs.Links.{Linked, onto, collected, gathered, front}
-use Rattle.hashed.specs.Cells.{target, next_of, first_of, entry_of, entry_in, bucket_of, bucket_entries, entries_in, values_in, held, room_of, used_of, Placed, WellFormed, ValidCells, Relinked, Rewritten}
+use Rattle.hashed.specs.Cells.{target, next_of, first_of, entry_of, entry_in, bucket_of, bucket_entries, entries_in, values_in, held, room_of, used_of, Placed, WellFormed, ValidCells, Relinked}
 use Rattle.hashed.specs.Store.{state_of, InRange, PlaceOf}
 use Rattle.hashed.proofs.Links.{all_left, all_right, collected-append, first_left, walk-length}
 use Rattle.hashed.proofs.Used.{part-length, from_part, after}
-use Rattle.hashed.proofs.Writes.{target_in, rewritten}
+use Rattle.hashed.proofs.Writes.{target_in, Rewritten, rewritten}
 use Rattle.hashed.proofs.WellFormed.{Changed, put_apart, put_change, take_apart, take_change, set_change}
 use Rattle.hashed.proofs.Effects.{sequence-parts, contents_after, valid_after}
 
 -- ---- how many entries there are
 
+nth_is : {X : Type 0} (xs : List X) (i : ℕ) → i < length xs → (x : X) × (slice_get xs i ≡ Some x)
+nth_is [] i l = absurd (omega arith)
+nth_is (x ∷ xs) zero l = (x, refl)
+nth_is (x ∷ xs) (suc i) l = nth_is xs i (omega arith)
+
 module _ {K V : Type 0} (n : ℕ) (cells : List (Cell K V)) (fits : n ≤ length cells) where
   collected-length : (xs : List ℕ) → AllByRecursion (λ x. x < n) xs → length (collected (entry_of cells) xs) ≡ length xs
   collected-length [] h = refl
-  collected-length (x ∷ xs) h = one x h.0 ∙ ap suc (collected-length xs h.1)
-    where
-      one : (x : ℕ) → x < n → length (onto (entry_of cells x) (collected (entry_of cells) xs)) ≡ suc (length (collected (entry_of cells) xs))
-      one x l = some cells (nth_is cells x (omega arith))
-        where
-          nth_is : (cs : List (Cell K V)) (i : ℕ) → i < length cs → (c : Cell K V) × (slice_get cs i ≡ Some c)
-          nth_is [] i l = absurd (omega arith)
-          nth_is (c ∷ cs) zero l = (c, refl)
-          nth_is (c ∷ cs) (suc i) l = nth_is cs i (omega arith)
-
-          some : (cs : List (Cell K V)) → ((c : Cell K V) × (slice_get cells x ≡ Some c)) → length (onto (entry_of cells x) (collected (entry_of cells) xs)) ≡ suc (length (collected (entry_of cells) xs))
-          some cs w = ap (λ (t : Option (Cell K V)). length (onto (entry_in t) (collected (entry_of cells) xs))) w.1
+  collected-length (x ∷ xs) h =
+      let l = h.0 in
+      ap (λ (t : Option (Cell K V)). length (onto (entry_in t) (collected (entry_of cells) xs))) (nth_is cells x (omega arith)).1 ∙ ap suc (collected-length xs h.1)
 
   entries-length : (m : ℕ) → ((b : ℕ) → b < m → AllByRecursion (λ x. x < n) (bucket_of n cells b)) → length (gathered (bucket_entries n cells) m) ≡ length (gathered (bucket_of n cells) m)
   entries-length zero h = refl
@@ -57,6 +53,10 @@ values-most less [] k = omega arith
 values-most less (e ∷ es) k =
     let i = values-most less es k in
     elim (same less e.0 k) as (λ t. length (cond t (e.1 ∷ values_in less es k) (values_in less es k)) ≤ suc (length es)) [ true ↦ omega arith | false ↦ omega arith ]
+
+-- the cells are in order, and the answer with what they mean is the outcome of a call
+abbrev pub Outcome : {K V R : Type 0} → (K → K → Bool) → (K → ℕ) → R → R × StoreState K V → ℕ → ℕ → List (Cell K V) → Type 0
+Outcome less hash answer outcome free n cells = ValidCells hash n cells free × ((answer, state_of less (entries_in n cells) n) ≡ outcome)
 
 -- ---- a place and its sequence
 
@@ -86,7 +86,7 @@ module _ {K V : Type 0} {less : K → K → Bool} (o : StrictOrder less) (hash :
           → sequence less (held less (entries_in n cells)) k ≡ values_in less (collected (entry_of cells) at.found.before) k ++ values_in less (collected (entry_of cells) rest) k
           → length (sequence less (held less (entries_in n cells)) k) ≡ p.passed
       go [] e q = ap length (q ∙ append-nil (values_in less (collected (entry_of cells) at.found.before) k)) ∙ sym at.found.count
-      go (x ∷ rest) e q = let z : ◌≡◌ {A = ℕ} 0 1 = cc in absurd (omega arith)
+      go (x ∷ rest) e q = absurd cc
 
   pub not_past : rank ≤ p.passed → rank ≤ length (sequence less (held less (entries_in n cells)) k)
   not_past h =
@@ -112,7 +112,7 @@ module _ {K V : Type 0} {less : K → K → Bool} (o : StrictOrder less) (hash :
   standing x e = go at.found.rest (sym at.found.at ∙ e) at.found.parts
     where
       go : (rest : List ℕ) → front rest ≡ Some x → bucket_of n cells p.bucket ≡ at.found.before ++ rest → Standing x
-      go [] q parts = let z : ◌≡◌ {A = ℕ} 0 1 = cc in absurd (omega arith)
+      go [] q parts = absurd cc
       go (y ∷ rest) q parts =
           let w : y ≡ x = cc in
           let s = at.found.stops x e in
@@ -194,7 +194,7 @@ module _ {K V : Type 0} {less : K → K → Bool} (o : StrictOrder less) (hash :
       where
         none_left : (xs : List ℕ) → Linked (next_of n cells) None xs → length xs ≡ 0
         none_left [] c = refl
-        none_left (x ∷ xs) c = let q = c.0 in let z : ◌≡◌ {A = ℕ} 0 1 = cc in absurd (omega arith)
+        none_left (x ∷ xs) c = absurd (cc c.0)
 
     module _ (cells' : List (Cell K V)) (x : ℕ) (in_use : x < n) where
       in_room : p.bucket < n
@@ -205,7 +205,7 @@ module _ {K V : Type 0} {less : K → K → Bool} (o : StrictOrder less) (hash :
 
       pub put_does : (v : V) (free' : ℕ) → target n free ≡ Some x → rank ≤ p.passed → target n free' ≡ next_of n cells x
           → (((y : ℕ) → p.previous ≡ Some y → y ≢ x) → Relinked n cells cells' p.bucket p.previous x (target n p.link.0) (k, v) (Some x))
-          → ValidCells hash n cells' free' × ((Ok tt, state_of less (entries_in n cells') n) ≡ put_outcome less (state_of less (entries_in n cells) n) k rank v)
+          → Outcome less hash (Ok tt) (put_outcome less (state_of less (entries_in n cells) n) k rank v) free' n cells'
       put_does v free' is h next linked =
           let good' : WellFormed n cells (Some x) = subst (λ (t : Option ℕ). WellFormed n cells t) is good in
           let fl = first_left (next_of n cells) (Some x) x good'.unused good'.freed.linked refl in
@@ -243,7 +243,7 @@ module _ {K V : Type 0} {less : K → K → Bool} (o : StrictOrder less) (hash :
         old = subst (AllByRecursion (λ e. hash e.0 % n ≡ p.bucket)) was (placed p.bucket in_room)
 
         pub take_does : ((e : K × V) → entry_of cells x ≡ Some e → ((y : ℕ) → p.previous ≡ Some y → y ≢ x) → Relinked n cells cells' p.bucket p.previous x (target n free) e (next_of n cells x))
-            → ValidCells hash n cells' p.link.0 × ((true, state_of less (entries_in n cells') n) ≡ take_outcome less (state_of less (entries_in n cells) n) k rank)
+            → Outcome less hash true (take_outcome less (state_of less (entries_in n cells) n) k rank) p.link.0 n cells'
         take_does linked =
             let f = at.found in
             let b = p.bucket in
@@ -262,7 +262,7 @@ module _ {K V : Type 0} {less : K → K → Bool} (o : StrictOrder less) (hash :
             )
 
         pub set_does : (v : V) → ((e : K × V) → entry_of cells x ≡ Some e → Rewritten n cells cells' x (e.0, v))
-            → ValidCells hash n cells' free × ((true, state_of less (entries_in n cells') n) ≡ set_outcome less (state_of less (entries_in n cells) n) k rank v)
+            → Outcome less hash true (set_outcome less (state_of less (entries_in n cells) n) k rank v) free n cells'
         set_does v written =
             let f = at.found in
             let b = p.bucket in
@@ -282,41 +282,42 @@ module _ {K V : Type 0} {less : K → K → Bool} (o : StrictOrder less) (hash :
 
 module _ {K V : Type 0} {less : K → K → Bool} (o : StrictOrder less) (hash : K → ℕ) (old : List (Cell K V)) (r : ℕ) (is : r ≡ room_of old) (k : K) (rank : ℕ) (p : Place)
     (range : InRange (room_of old) p) (at : PlaceOf less hash (room_of old) (used_of old) k rank p) (free : ℕ) (v : ValidCells hash (room_of old) (used_of old) free) (x : ℕ) where
-  -- a number that leads to a cell leads to it in the room
+  abbrev meant : StoreState K V
+  meant = state_of less (entries_in (room_of old) (used_of old)) (room_of old)
+
+  fits : room_of old ≤ length (used_of old)
+  fits = omega (arith, part-length old (room_of old) refl)
+
   leads : (l : ℕ) → target r l ≡ Some x → target (room_of old) l ≡ Some x
   leads l e = subst (λ (n : ℕ). target n l ≡ Some x) is e
 
   module _ (xs : List (Cell K V)) (same : length xs ≡ length (take r old)) where
     pub put_leaves : (w : V) (free' : ℕ) → target r free ≡ Some x → rank ≤ p.passed → target (length (take r old)) free' ≡ next_of (length (take r old)) (take r old) x
         → (((y : ℕ) → p.previous ≡ Some y → y ≢ x) → Relinked (length (take r old)) (take r old) xs p.bucket p.previous x (target (length (take r old)) p.link.0) (k, w) (Some x))
-        → ValidCells hash (room_of (xs ++ drop r old)) (used_of (xs ++ drop r old)) free'
-        × ((Ok tt, state_of less (entries_in (room_of (xs ++ drop r old)) (used_of (xs ++ drop r old))) (room_of (xs ++ drop r old))) ≡ put_outcome less (state_of less (entries_in (room_of old) (used_of old)) (room_of old)) k rank w)
+        → Outcome less hash (Ok tt) (put_outcome less meant k rank w) free' (room_of (xs ++ drop r old)) (used_of (xs ++ drop r old))
     put_leaves w free' e h next linked =
-        after old r is (λ (n : ℕ) (cells : List (Cell K V)). ValidCells hash n cells free' × ((Ok tt, state_of less (entries_in n cells) n) ≡ put_outcome less (state_of less (entries_in (room_of old) (used_of old)) (room_of old)) k rank w)) xs same
-        (put_does o hash (room_of old) (used_of old) k rank p v.1 range at (omega (arith, part-length old (room_of old) refl)) free v.0 xs x (target_in (room_of old) free x (leads free e)) w free' (leads free e) h
+        after old r is (Outcome less hash (Ok tt) (put_outcome less meant k rank w) free') xs same
+        (put_does o hash (room_of old) (used_of old) k rank p v.1 range at fits free v.0 xs x (target_in (room_of old) free x (leads free e)) w free' (leads free e) h
         (from_part old r is (λ (n : ℕ) (cells : List (Cell K V)). target n free' ≡ next_of n cells x) next)
         (from_part old r is (λ (n : ℕ) (cells : List (Cell K V)). ((y : ℕ) → p.previous ≡ Some y → y ≢ x) → Relinked n cells xs p.bucket p.previous x (target n p.link.0) (k, w) (Some x)) linked))
 
     pub take_leaves : target r p.link.0 ≡ Some x
         → ((e : K × V) → entry_of (take r old) x ≡ Some e → ((y : ℕ) → p.previous ≡ Some y → y ≢ x)
         → Relinked (length (take r old)) (take r old) xs p.bucket p.previous x (target (length (take r old)) free) e (next_of (length (take r old)) (take r old) x))
-        → ValidCells hash (room_of (xs ++ drop r old)) (used_of (xs ++ drop r old)) p.link.0
-        × ((true, state_of less (entries_in (room_of (xs ++ drop r old)) (used_of (xs ++ drop r old))) (room_of (xs ++ drop r old))) ≡ take_outcome less (state_of less (entries_in (room_of old) (used_of old)) (room_of old)) k rank)
+        → Outcome less hash true (take_outcome less meant k rank) p.link.0 (room_of (xs ++ drop r old)) (used_of (xs ++ drop r old))
     take_leaves e linked =
-        after old r is (λ (n : ℕ) (cells : List (Cell K V)). ValidCells hash n cells p.link.0 × ((true, state_of less (entries_in n cells) n) ≡ take_outcome less (state_of less (entries_in (room_of old) (used_of old)) (room_of old)) k rank)) xs same
-        (take_does o hash (room_of old) (used_of old) k rank p v.1 range at (omega (arith, part-length old (room_of old) refl)) free v.0 xs x (target_in (room_of old) p.link.0 x (leads p.link.0 e)) (leads p.link.0 e)
+        after old r is (Outcome less hash true (take_outcome less meant k rank) p.link.0) xs same
+        (take_does o hash (room_of old) (used_of old) k rank p v.1 range at fits free v.0 xs x (target_in (room_of old) p.link.0 x (leads p.link.0 e)) (leads p.link.0 e)
         (from_part old r is (λ (n : ℕ) (cells : List (Cell K V)). (e : K × V) → entry_of cells x ≡ Some e → ((y : ℕ) → p.previous ≡ Some y → y ≢ x) → Relinked n cells xs p.bucket p.previous x (target n free) e (next_of n cells x)) linked))
 
   abbrev written : Cell K V → V → List (Cell K V)
   written d w = set (take r old) x (record { key = (get_or (take r old) x d).key; value = w; first = (get_or (take r old) x d).first; next = (get_or (take r old) x d).next })
 
   pub set_leaves : (d : Cell K V) (w : V) → target r p.link.0 ≡ Some x
-      → ValidCells hash (room_of (written d w ++ drop r old)) (used_of (written d w ++ drop r old)) free
-      × ((true, state_of less (entries_in (room_of (written d w ++ drop r old)) (used_of (written d w ++ drop r old))) (room_of (written d w ++ drop r old)))
-      ≡ set_outcome less (state_of less (entries_in (room_of old) (used_of old)) (room_of old)) k rank w)
+      → Outcome less hash true (set_outcome less meant k rank w) free (room_of (written d w ++ drop r old)) (used_of (written d w ++ drop r old))
   set_leaves d w e =
       let within = target_in (room_of old) p.link.0 x (leads p.link.0 e) in
-      after old r is (λ (n : ℕ) (cells : List (Cell K V)). ValidCells hash n cells free × ((true, state_of less (entries_in n cells) n) ≡ set_outcome less (state_of less (entries_in (room_of old) (used_of old)) (room_of old)) k rank w)) (written d w) (length-set (take r old) x _)
-      (set_does o hash (room_of old) (used_of old) k rank p v.1 range at (omega (arith, part-length old (room_of old) refl)) free v.0 (written d w) x within (leads p.link.0 e) w
+      after old r is (Outcome less hash true (set_outcome less meant k rank w) free) (written d w) (length-set (take r old) x _)
+      (set_does o hash (room_of old) (used_of old) k rank p v.1 range at fits free v.0 (written d w) x within (leads p.link.0 e) w
       (from_part old r is (λ (n : ℕ) (cells : List (Cell K V)). (e : K × V) → entry_of cells x ≡ Some e → Rewritten n cells (written d w) x (e.0, w))
       (rewritten (length (take r old)) (take r old) x d w (omega (arith, part-length old r is, within)))))

@@ -27,19 +27,10 @@ split_at {E} f g (suc n) b h same =
     ⊎_elim
     (λ (e : b ≡ n).
     let q : gathered g n ≡ gathered f n = gathered-same f g n (λ c l. same c (omega arith) (λ d. absurd (omega arith))) in
-    record {
-      post = [];
-      old = subst (λ (m : ℕ). gathered f n ++ f n ≡ gathered f m ++ (f m ++ [])) (sym e) (ap (λ (t : List E). gathered f n ++ t) (sym (append-nil (f n))));
-      new = subst (λ (m : ℕ). gathered g n ++ g n ≡ gathered f m ++ (g m ++ [])) (sym e) (ap (λ (t : List E). t ++ g n) q ∙ ap (λ (t : List E). gathered f n ++ t) (sym (append-nil (g n))));
-    })
+    record { post = []; old = simp (e, append-nil); new = simp (e, q, append-nil) })
     (λ (no : b ≢ n).
     let s = split_at f g n b (omega arith) (λ c l. same c (omega arith)) in
-    record {
-      post = s.post ++ f n;
-      old = ap (λ (t : List E). t ++ f n) s.old ∙ append_assoc (gathered f b) (f b ++ s.post) (f n) ∙ ap (λ (t : List E). gathered f b ++ t) (append_assoc (f b) s.post (f n));
-      new = ap (λ (t : List E). t ++ g n) s.new ∙ ap (λ (t : List E). (gathered f b ++ (g b ++ s.post)) ++ t) (same n (omega arith) (λ e. no (sym e)))
-          ∙ append_assoc (gathered f b) (g b ++ s.post) (f n) ∙ ap (λ (t : List E). gathered f b ++ t) (append_assoc (g b) s.post (f n));
-    })
+    record { post = s.post ++ f n; old = simp (s.old, append_assoc); new = simp (s.new, same n (omega arith) (λ e. no (sym e)), append_assoc) })
     (cases_eq b n)
 
 regroup : {E : Type 0} (a d m r p : List E) → a ++ ((d ++ (m ++ r)) ++ p) ≡ (a ++ d) ++ (m ++ (r ++ p))
@@ -66,23 +57,14 @@ around {E} f g n b d m m' r h same p q =
 module _ {K V : Type 0} (less : K → K → Bool) (k : K) where
   gathered_none : (f : ℕ → List (K × V)) (n : ℕ) → ((c : ℕ) → c < n → values_in less (f c) k ≡ []) → values_in less (gathered f n) k ≡ []
   gathered_none f zero h = refl
-  gathered_none f (suc n) h =
-      values-append less (gathered f n) (f n) k
-      ∙ ap (λ (t : List V). t ++ values_in less (f n) k) (gathered_none f n (λ c l. h c (omega arith)))
-      ∙ h n (omega arith)
+  gathered_none f (suc n) h = rw (values-append less (gathered f n) (f n) k, gathered_none f n (λ c l. h c (omega arith)), h n (omega arith))
 
   gathered_only : (f : ℕ → List (K × V)) (n b : ℕ) → b < n → ((c : ℕ) → c < n → c ≢ b → values_in less (f c) k ≡ []) → values_in less (gathered f n) k ≡ values_in less (f b) k
   gathered_only f zero b h none = absurd (omega arith)
   gathered_only f (suc n) b h none =
-      values-append less (gathered f n) (f n) k
-      ∙ ⊎_elim
-      (λ (e : b ≡ n).
-      ap (λ (t : List V). t ++ values_in less (f n) k) (gathered_none f n (λ c l. none c (omega arith) (λ d. absurd (omega arith))))
-      ∙ ap (λ (m : ℕ). values_in less (f m) k) (sym e))
-      (λ (no : b ≢ n).
-      ap (λ (t : List V). values_in less (gathered f n) k ++ t) (none n (omega arith) (λ e. no (sym e)))
-      ∙ append-nil (values_in less (gathered f n) k)
-      ∙ gathered_only f n b (omega arith) (λ c l. none c (omega arith)))
+      ⊎_elim
+      (λ (e : b ≡ n). rw (values-append less (gathered f n) (f n) k, gathered_none f n (λ c l. none c (omega arith) (λ d. absurd (omega arith))), e))
+      (λ (no : b ≢ n). rw (values-append less (gathered f n) (f n) k, none n (omega arith) (λ e. no (sym e)), append-nil (values_in less (gathered f n) k)) (gathered_only f n b (omega arith) (λ c l. none c (omega arith))))
       (cases_eq b n)
 
 module _ {K V : Type 0} {less : K → K → Bool} (o : StrictOrder less) (hash : K → ℕ) (n : ℕ) where

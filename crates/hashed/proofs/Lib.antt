@@ -1,9 +1,9 @@
 pub mod Links
 pub mod Writes
 pub mod Walks
+pub mod Used
 pub mod Emptied
 pub mod WellFormed
 pub mod Effects
-pub mod Used
 pub mod Sets
 pub mod Calls

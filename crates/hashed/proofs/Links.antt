@@ -28,7 +28,7 @@ Linked-prop next l (x ∷ xs) = hlevel (Linked-prop next (next x) xs, props)
 -- ---- what a walk gives
 pub walk-linked : (next : ℕ → Option ℕ) (f : ℕ) (l : Option ℕ) (xs : List ℕ) → Linked next l xs → length xs ≤ f → walk next f l ≡ xs
 walk-linked next zero l [] c h = refl
-walk-linked next zero l (x ∷ xs) c h = let z : ⊥ = omega arith in absurd z
+walk-linked next zero l (x ∷ xs) c h = absurd (omega arith)
 walk-linked next (suc f) l [] c h = ap (walk next (suc f)) c
 walk-linked next (suc f) l (x ∷ xs) c h =
     ap (walk next (suc f)) c.0 ∙ ap (λ r. x ∷ r) (walk-linked next f (next x) xs c.2 (omega arith))
@@ -114,14 +114,14 @@ gathered-same f g zero h = refl
 gathered-same f g (suc n) h = rw (h n (omega arith), gathered-same f g n (λ b l. h b (omega arith)))
 
 pub gathered-most : {E : Type 0} (f : ℕ → List E) (n b : ℕ) → b < n → length (f b) ≤ length (gathered f n)
-gathered-most f zero b h = let z : ⊥ = omega arith in absurd z
+gathered-most f zero b h = absurd (omega arith)
 gathered-most f (suc n) b h =
     rw length-append (⊎_elim (λ e. rw e (omega arith)) (λ no. let i = gathered-most f n b (omega arith) in omega arith) (cases_eq b n))
 
 -- the size where one list gains or loses
 pub gathered_change : {E : Type 0} (f g : ℕ → List E) (n b : ℕ) → b < n → ((c : ℕ) → c < n → c ≢ b → g c ≡ f c)
     → length (gathered g n) + length (f b) ≡ length (gathered f n) + length (g b)
-gathered_change f g zero b h same = let z : ⊥ = omega arith in absurd z
+gathered_change f g zero b h same = absurd (omega arith)
 gathered_change f g (suc n) b h same =
     simp length-append
     (⊎_elim
@@ -144,5 +144,5 @@ linked_start next l (x ∷ xs) c = c.0
 
 -- the first cell of a list that a link leads to
 pub first_left : (next : ℕ → Option ℕ) (l : Option ℕ) (x : ℕ) (xs : List ℕ) → Linked next l xs → l ≡ Some x → (ys : List ℕ) × (xs ≡ x ∷ ys)
-first_left next l x [] c e = let z : ◌≡◌ {A = ℕ} 0 1 = cc in absurd (omega arith)
+first_left next l x [] c e = absurd cc
 first_left next l x (y ∷ ys) c e = let q : y ≡ x = cc (c.0, e) in (ys, ap (λ w. w ∷ ys) q)

@@ -28,7 +28,7 @@ pub record Walking {K V : Type 0} (less : K → K → Bool) (n : ℕ) (cells : L
 
 module _ {K V : Type 0} (less : K → K → Bool) (n : ℕ) (cells : List (Cell K V)) (xs : List ℕ) (k : K) (rank : ℕ) where
   pub walk_start : (l : Option ℕ) → Linked (next_of n cells) l xs → Walking less n cells xs k rank None l 0
-  walk_start l c = record { before = []; rest = xs; parts = refl; ahead = c; last = refl; near = λ y e. (let z : ◌≡◌ {A = ℕ} 0 1 = cc in absurd (omega arith)); count = refl; most = omega arith }
+  walk_start l c = record { before = []; rest = xs; parts = refl; ahead = c; last = refl; near = λ y e. absurd cc; count = refl; most = omega arith }
 
   -- what a cell adds to the values of the key
   gain : (o : Option (K × V)) (e : K × V) (t : Bool) → o ≡ Some e → same less e.0 k ≡ t → length (values_in less (onto o []) k) ≡ cond t 1 0
@@ -36,32 +36,16 @@ module _ {K V : Type 0} (less : K → K → Bool) (n : ℕ) (cells : List (Cell 
   gain o e false q h = ap (λ (w : Option (K × V)). length (values_in less (onto w []) k)) q ∙ ap (λ (b : Bool). length (cond b (e.1 ∷ []) [])) h
 
   module _ (previous here : Option ℕ) (passed : ℕ) (s : Walking less n cells xs k rank previous here passed) where
+    stopped : ((x : ℕ) → here ≡ Some x → (passed ≡ rank) × ((e : K × V) × (entry_of cells x ≡ Some e) × (same less e.0 k ≡ true))) → Found less cells xs k rank previous here passed
+    stopped stops =
+        record { before = s.before; rest = s.rest; parts = s.parts; at = linked_start (next_of n cells) here s.rest s.ahead; last = s.last; count = s.count; most = s.most; stops = stops }
+
     pub walk_end : here ≡ None → Found less cells xs k rank previous here passed
-    walk_end e =
-        record {
-          before = s.before;
-          rest = s.rest;
-          parts = s.parts;
-          at = linked_start (next_of n cells) here s.rest s.ahead;
-          last = s.last;
-          count = s.count;
-          most = s.most;
-          stops = λ y q. let z : ◌≡◌ {A = ℕ} 0 1 = cc in absurd (omega arith);
-        }
+    walk_end e = stopped (λ y q. absurd cc)
 
     module _ (x : ℕ) (e : K × V) (at : here ≡ Some x) (is : entry_of cells x ≡ Some e) where
       pub walk-found : same less e.0 k ≡ true → passed ≡ rank → Found less cells xs k rank previous here passed
-      walk-found h full =
-          record {
-            before = s.before;
-            rest = s.rest;
-            parts = s.parts;
-            at = linked_start (next_of n cells) here s.rest s.ahead;
-            last = s.last;
-            count = s.count;
-            most = s.most;
-            stops = λ y q. let p : x ≡ y = cc in (full, (e, ap (entry_of cells) (sym p) ∙ is, h));
-          }
+      walk-found h full = stopped (λ y q. let p : x ≡ y = cc in (full, (e, ap (entry_of cells) (sym p) ∙ is, h)))
 
       pub walk_next : (on : Option ℕ) (more : ℕ) (t : Bool) → x < n → same less e.0 k ≡ t → more ≡ passed + cond t 1 0 → more ≤ rank → next_of n cells x ≡ on
           → Walking less n cells xs k rank (Some x) on more

@@ -6,7 +6,8 @@ use Rattle.std.proofs.ByRecursion.{All-append, All-weaker}
 use Rattle.std.proofs.lemmas.Bool.{cases_eq}
 use Rattle.hashed.specs.declared.cell.Cell.{Cell}
 use Rattle.hashed.specs.Links.{walk, Linked, onto, collected, gathered, LastIs, front}
-use Rattle.hashed.specs.Cells.{next_of, first_of, entry_of, bucket_of, bucket_entries, OwnList, WellFormed, Redirected, Relinked, Rewritten}
+use Rattle.hashed.specs.Cells.{next_of, first_of, entry_of, bucket_of, bucket_entries, OwnList, WellFormed, Redirected, Relinked}
+use Rattle.hashed.proofs.Writes.{Rewritten}
 use Rattle.hashed.proofs.Links.{all_left, all_right, all_both, walk-linked, walk-length, linked_frame, linked_start, collected_frame, collected-append, linked_apart, linked_after, linked-front, linked-insert, linked-remove, gathered-most, gathered_change}
 
 -- ---- one bucket and the free cells change
@@ -106,12 +107,9 @@ module _ (next next' : ℕ → Option ℕ) (l l' : Option ℕ) (x : ℕ) where
 
   put_linked : (previous : Option ℕ) (before rest : List ℕ) → LastIs previous before → Linked next l (before ++ rest) → AllByRecursion (λ z. z ≢ x) (before ++ rest)
       → next' x ≡ front rest → Led previous (Some x) → Linked next' l' (before ++ x ∷ rest)
-  put_linked None before rest at c out on led =
-      let c₀ : Linked next l rest = subst (λ d. Linked next l (d ++ rest)) at c in
-      let o₀ : AllByRecursion (λ z. z ≢ x) rest = subst (λ d. AllByRecursion (λ z. z ≢ x) (d ++ rest)) at out in
-      subst (λ d. Linked next' l' (d ++ x ∷ rest)) (sym at)
-      (subst (λ t. Linked next' t (x ∷ rest)) (sym led.0)
-      (linked-front next next' x l rest c₀ o₀ (on ∙ sym (linked_start next l rest c₀)) led.1))
+  put_linked None [] rest at c out on led =
+      subst (λ t. Linked next' t (x ∷ rest)) (sym led.0) (linked-front next next' x l rest c out (on ∙ sym (linked_start next l rest c)) led.1)
+  put_linked None (y ∷ before) rest at c out on led = absurd cc
   put_linked (Some y) before rest at c out on led =
       let e : before ++ rest ≡ at.0 ++ y ∷ rest = ap (λ d. d ++ rest) at.1 ∙ append_assoc at.0 (y ∷ []) rest in
       let e' : before ++ x ∷ rest ≡ at.0 ++ y ∷ x ∷ rest = ap (λ d. d ++ x ∷ rest) at.1 ∙ append_assoc at.0 (y ∷ []) (x ∷ rest) in
@@ -122,11 +120,9 @@ module _ (next next' : ℕ → Option ℕ) (l l' : Option ℕ) (x : ℕ) where
 
   take-linked : (previous : Option ℕ) (before rest : List ℕ) → LastIs previous before → Linked next l (before ++ x ∷ rest)
       → Led previous (next x) → Linked next' l' (before ++ rest)
-  take-linked None before rest at c led =
-      let c₀ : Linked next l (x ∷ rest) = subst (λ d. Linked next l (d ++ x ∷ rest)) at c in
-      subst (λ d. Linked next' l' (d ++ rest)) (sym at)
-      (subst (λ t. Linked next' t rest) (sym led.0)
-      (linked_frame next next' (next x) rest (All-weaker (λ z. z ≢ x) (λ z. next' z ≡ next z) led.1 rest c₀.1) c₀.2))
+  take-linked None [] rest at c led =
+      subst (λ t. Linked next' t rest) (sym led.0) (linked_frame next next' (next x) rest (All-weaker (λ z. z ≢ x) (λ z. next' z ≡ next z) led.1 rest c.1) c.2)
+  take-linked None (y ∷ before) rest at c led = absurd cc
   take-linked (Some y) before rest at c led =
       let e : before ++ x ∷ rest ≡ at.0 ++ y ∷ x ∷ rest = ap (λ d. d ++ x ∷ rest) at.1 ∙ append_assoc at.0 (y ∷ []) (x ∷ rest) in
       let e' : before ++ rest ≡ at.0 ++ y ∷ rest = ap (λ d. d ++ rest) at.1 ∙ append_assoc at.0 (y ∷ []) rest in

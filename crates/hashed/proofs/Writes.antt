@@ -1,11 +1,11 @@
 -- What is read from a cell, and what writes of cells leave.
-use Rattle.std.proofs.Common.{◌≡◌, ℕ, zero, suc, ◌<◌, ◌≤◌, true, false, cond, ltb, ◌≢◌, List, [], ◌∷◌, length, get_or, set, Some, None, Option, sym, refl, ap, ◌∙◌, subst, ⊎_elim, arith, length-set}
+use Rattle.std.proofs.Common.{◌≡◌, ℕ, zero, suc, ◌<◌, ◌≤◌, true, false, cond, ltb, ◌≢◌, List, [], ◌∷◌, length, get_or, set, Some, None, Option, sym, refl, ap, ◌∙◌, subst, ⊎_elim, arith, length-set, get_or-set_same}
 use Rattle.std.specs.List.{slice_get}
 use Rattle.std.proofs.lemmas.Option.{slice_get-get_or}
 use Rattle.std.proofs.lemmas.Bool.{cases_eq, cases_Bool, ltb-true, lt-ltb, le-ltb}
 use Rattle.hashed.specs.declared.cell.Cell.{Cell}
 use Rattle.hashed.specs.declared.cell.Link.{Link}
-use Rattle.hashed.specs.Cells.{target, next_in, first_in, entry_in, next_of, first_of, entry_of, Relinked, Rewritten}
+use Rattle.hashed.specs.Cells.{target, next_in, first_in, entry_in, next_of, first_of, entry_of, Relinked}
 
 -- ---- links
 
@@ -13,7 +13,7 @@ pub target_in : (n l x : ℕ) → target n l ≡ Some x → x < n
 target_in n l x e =
     ⊎_elim
     (λ (t : ltb l n ≡ true). let s : target n l ≡ Some l = ap (λ b. cond b (Some l) None) t in let q : l ≡ x = cc in let h = ltb-true l n t in omega arith)
-    (λ (f : ltb l n ≡ false). let s : target n l ≡ None = ap (λ b. cond b (Some l) None) f in let z : ◌≡◌ {A = ℕ} 0 1 = cc in absurd (omega arith))
+    (λ (f : ltb l n ≡ false). let s : target n l ≡ None = ap (λ b. cond b (Some l) None) f in absurd cc)
     (cases_Bool (ltb l n))
 
 pub target_of : (n l x : ℕ) → l ≡ x → x < n → target n l ≡ Some x
@@ -37,12 +37,17 @@ module _ {K V : Type 0} (n : ℕ) (cells : List (Cell K V)) (x : ℕ) (r : Cell 
   pub read_entry : entry_of cells x ≡ Some (r.key, r.value)
   read_entry = ap entry_in read_nth
 
+-- the cell that a link leads to
+pub reached : {K V : Type 0} (cells : List (Cell K V)) (l x : ℕ) (r : Cell K V) → target (length cells) l ≡ Some x → r ≡ get_or cells x r
+    → (x < length cells) × (entry_of cells x ≡ Some (r.key, r.value)) × (next_of (length cells) cells x ≡ target (length cells) r.next.0)
+reached cells l x r at is =
+    let h = target_in (length cells) l x at in
+    (h, read_entry (length cells) cells x r h is, read_next (length cells) cells x r h is)
+
 -- ---- one write
 
 nth_set_same : {X : Type 0} (xs : List X) (i : ℕ) (c : X) → i < length xs → slice_get (set xs i c) i ≡ Some c
-nth_set_same [] i c h = absurd (omega arith)
-nth_set_same (x ∷ xs) zero c h = refl
-nth_set_same (x ∷ xs) (suc i) c h = nth_set_same xs i c (omega arith)
+nth_set_same xs i c h = slice_get-get_or (set xs i c) i c (simp length-set h) ∙ ap Some (get_or-set_same xs i c c h)
 
 nth_set_other : {X : Type 0} (xs : List X) (i j : ℕ) (c : X) → j ≢ i → slice_get (set xs i c) j ≡ slice_get xs j
 nth_set_other [] i j c h = refl
@@ -109,6 +114,13 @@ module _ {K V : Type 0} (n : ℕ) (cells : List (Cell K V)) (b x : ℕ) (cell d 
           λ z ne nz. set_there (next_in n) one y _ z nz ∙ set_there (next_in n) cells x cell z ne,
         );
       }
+
+-- the cell x holds another entry, and no link changes
+pub record Rewritten {K V : Type 0} (n : ℕ) (cells cells' : List (Cell K V)) (x : ℕ) (e : K × V) : Type 0 where
+  pub here : entry_of cells' x ≡ Some e
+  pub elsewhere : (z : ℕ) → z ≢ x → entry_of cells' z ≡ entry_of cells z
+  pub nexts : (z : ℕ) → next_of n cells' z ≡ next_of n cells z
+  pub firsts : (z : ℕ) → first_of n cells' z ≡ first_of n cells z
 
 -- another value in the cell x
 pub rewritten : {K V : Type 0} (n : ℕ) (cells : List (Cell K V)) (x : ℕ) (d : Cell K V) (v : V) → x < length cells → (e : K × V) → entry_of cells x ≡ Some e

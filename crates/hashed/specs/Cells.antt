@@ -4,7 +4,12 @@ use Rattle.std.specs.List.{AllByRecursion, slice_get}
 use Rattle.keys.specs.Order.{same}
 use Rattle.chains.specs.Entries.{values_under, contents_of}
 use Rattle.hashed.specs.declared.cell.Cell.{Cell}
+use Rattle.hashed.specs.declared.cell.Link.{Link}
 use Rattle.hashed.specs.Links.{walk, Linked, collected, gathered, LastIs, front}
+
+-- the link that leads to no cell, however many are in use
+abbrev pub nowhere : Link
+nowhere = record { 0 = 32768 }
 
 -- the cell that a link leads to; a number that is none of the n cells' ends the list
 abbrev pub target : ℕ → ℕ → Option ℕ
@@ -108,13 +113,6 @@ pub record Relinked {K V : Type 0} (n : ℕ) (cells cells' : List (Cell K V)) (b
   pub elsewhere : (z : ℕ) → z ≢ x → entry_of cells' z ≡ entry_of cells z
   pub onward : next_of n cells' x ≡ on
   pub links : Redirected n cells cells' b x previous to
-
--- the cell x holds another entry, and no link changes
-pub record Rewritten {K V : Type 0} (n : ℕ) (cells cells' : List (Cell K V)) (x : ℕ) (e : K × V) : Type 0 where
-  pub here : entry_of cells' x ≡ Some e
-  pub elsewhere : (z : ℕ) → z ≢ x → entry_of cells' z ≡ entry_of cells z
-  pub nexts : (z : ℕ) → next_of n cells' z ≡ next_of n cells z
-  pub firsts : (z : ℕ) → first_of n cells' z ≡ first_of n cells z
 
 -- the numbers below m, descending
 abbrev pub below : ℕ → List ℕ

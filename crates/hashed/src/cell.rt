@@ -1,6 +1,6 @@
 // One cell of a store, and its links.
 ghost use Rattle.std.specs.Prelude.{◌≡◌, ◌<◌};
-ghost use Rattle.hashed.specs.Cells.{target};
+ghost use Rattle.hashed.specs.Cells.{nowhere, target};
 
 /// Leads to a cell by its number. A number past the cells in use leads to none: that link ends a list.
 #[derive(Clone, Copy, PartialEq, Eq, Debug)]
@@ -41,7 +41,7 @@ pub struct Cell<K, V> {
 impl<K, V> Cell<K, V> {
     /// A cell to lend; what it holds does not matter to a store.
     pub fn new(key: K, value: V) -> Self
-        ensures { result ≡ record { key = key; value = value; first = record { 0 = 32768 }; next = record { 0 = 32768 } } }
+        ensures { result ≡ record { key = key; value = value; first = nowhere; next = nowhere } }
     {
         Cell {
             key,

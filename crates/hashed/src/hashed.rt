@@ -17,6 +17,7 @@ const MAX_ROOM: usize = 32_768;
 pub struct Hashed<'a, K: Key, V> {
     cells: &'a mut [Cell<K, V>],
     free: Link,
+    // Every list ends, each cell is in one list, and each entry is in the bucket of its key.
     ghost valid: { ∥ ValidCells K.hash (room_of cells.now) (used_of cells.now) free.0 ∥₁ },
 }
 

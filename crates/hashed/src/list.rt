@@ -52,7 +52,7 @@ pub(crate) fn seek<K: Key, V: Copy>(
     let mut link = cells[bucket].first;
     let mut passed = 0;
     while let Some(x) = link.cell(cells.len()) {
-        let cell = cells[x];
+        let cell = &cells[x];
         if is_same(&cell.key, &key) {
             if passed == rank {
                 break;
