@@ -1,5 +1,5 @@
 -- What the lines of a listing say.
-use Rattle.std.specs.Prelude.{◌≡◌, ℕ, cond, List, [], ◌∷◌, length, Some, None, Option, nat_le}
+use Rattle.std.specs.Prelude.{◌≡◌, ℕ, cond, List, [], ◌∷◌, length, None, Option, nat_le}
 use Rattle.std.specs.Option.{option_map}
 use Rattle.lines.specs.Buffer.{kept}
 use Rattle.lines.specs.Fields.{fields}
