@@ -1,9 +1,10 @@
 -- Parts of a list: one put back, replaced or written to, and an item that goes in or comes out.
 use Rattle.std.proofs.Common.{◌≡◌, ℕ, suc, ◌+◌, ◌-◌, ◌<◌, ◌≤◌, List, ◌∷◌, ◌++◌, length, get_or, take, drop, set, sym, ap, ◌∙◌, add-one, arith}
-use lib.Seq.{take-append-add, drop-append-add}
+use lib.Seq.{take-append-add}
 use borrow.Rule.Slice.PartMut.{put_mid}
 use Rattle.std.specs.List.{insert, remove}
-use Rattle.std.proofs.lemmas.List.{take_at, drop_at, get_or_at, append_assoc, take-append-drop, take-append-le, drop-append-le, drop-drop, length-take-le, length-drop, length-append, length-take, set-append_left, set-append_right, take-take, drop-take, take_all, drop_all, append-nil}
+use Rattle.std.proofs.lemmas.List.Edits.{insert-append_left, insert-append_right}
+use Rattle.std.proofs.lemmas.List.{take_at, drop_at, get_or_at, take-append-drop, take-append-le, drop-drop, length-take-le, length-drop, length-append, length-take, set-append_left, set-append_right, take-take, drop-take}
 
 module _ {X : Type 0} where
   -- a part put back where it stands
@@ -25,11 +26,8 @@ module _ {X : Type 0} where
   -- a cell put into a part
   pub inserted_mid : (p r q : List X) (a to : ℕ) (x : X) → length p ≡ a → to ≤ length r → insert (p ++ (r ++ q)) (a + to) x ≡ p ++ (insert r to x ++ q)
   inserted_mid p r q a to x lp le =
-      let t0 : take (a + to) (p ++ (r ++ q)) ≡ p ++ take to (r ++ q) = rw (sym lp) (take-append-add p (r ++ q) to) in
-      let d0 : drop (a + to) (p ++ (r ++ q)) ≡ drop to (r ++ q) = rw (sym lp) (drop-append-add p (r ++ q) to) in
-      let t1 = take-append-le to r q le in
-      let d1 = drop-append-le to r q le in
-      rw (t0, d0, t1, d1) (append_assoc p (take to r) (x ∷ (drop to r ++ q)) ∙ ap (λ (t : List X). p ++ t) (sym (append_assoc (take to r) (x ∷ drop to r) q)))
+      let m : a + to - a ≡ to = omega arith in
+      insert-append_right p (r ++ q) a (a + to) x lp (omega arith) ∙ ap (λ (n : ℕ). p ++ insert (r ++ q) n x) m ∙ ap (λ (t : List X). p ++ t) (insert-append_left r q to x le)
 
   pub take_inserted : (l : List X) (i n : ℕ) (x : X) → i ≤ n → i ≤ length l → take (n + 1) (insert l i x) ≡ insert (take n l) i x
   take_inserted l i n x le le' =
@@ -71,7 +69,3 @@ module _ {X : Type 0} where
         sym (ap (λ (v : List X). remove v i) e ∙ ap (λ (v : List X). v ++ drop (suc i) (insert ys i y)) t ∙ ap (λ (v : List X). take i ys ++ v) d2 ∙ take-append-drop i ys),
         λ d. sym (ap (λ (v : List X). get_or v i d) e ∙ get_or_at (take i ys) y (drop i ys) d i li),
       )
-
-  -- past the end there is nothing to take out
-  pub removed_past : (xs : List X) (i : ℕ) → length xs ≤ i → remove xs i ≡ xs
-  removed_past xs i le = rw (take_all i xs le, drop_all (suc i) xs (omega arith)) (append-nil xs)

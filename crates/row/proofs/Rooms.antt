@@ -6,7 +6,6 @@ use Rattle.std.proofs.lemmas.Option.{slice_get-get_or}
 use Rattle.std.proofs.lemmas.List.{length-take-le, length-drop, length-set, take-append-le, get_or-take}
 use Rattle.row.specs.Rings.{rings, room_of}
 use Rattle.row.specs.Row.{items, room, outside, order, block_end, Kept}
-use Rattle.std.specs.Borrow.{GName}
 use borrow.Rule.Slice.PartMut.{put_mid}
 use Rattle.std.proofs.lemmas.Slice.{drop-put_mid}
 use Rattle.row.proofs.Lists.{length_put_mid}

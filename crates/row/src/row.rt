@@ -1,9 +1,5 @@
 // The row of cells.
-#![tactic(
-    auto,
-    using(crate::proofs::Rooms::lengths),
-    unfolding(crate::specs::Row::room)
-)]
+#![tactic(auto, using(crate::proofs::Rooms::lengths), unfolding(crate::specs::Row::room))]
 
 ghost use Rattle.std.specs.Prelude.{◌≡◌, ◌≤◌, min, [], length, drop};
 ghost use Rattle.row.specs.Rings.{room_of, HeadsWithin};

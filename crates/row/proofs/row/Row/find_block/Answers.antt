@@ -1,6 +1,6 @@
 use Rattle.std.proofs.Common.{◌≡◌, ℕ, ◌+◌, ◌-◌, ◌*◌, ◌/◌, ◌^◌, cond, get_or, sym, ◌∙◌, subst, arith, pow_pos}
 use Rattle.row.specs.Partition.{Window}
-use Rattle.row.specs.Row.{order, room}
+use Rattle.row.specs.Row.{order}
 use Rattle.row.proofs.Windows.{computed, pow_half, bit_le, first_block, halved_block}
 use Rattle.row.proofs.row.Row.find_block.Goals as goal
 use Rattle.row.proofs.row.Row.find_block.Goals.{then-pred, else-pred}

@@ -1,6 +1,4 @@
 use Rattle.std.proofs.Common.{◌≡◌, length, Some, sym, ap, ◌∙◌, arith}
-use Rattle.std.proofs.lemmas.Option.{slice_get_past}
-use Rattle.row.specs.Row.{items}
 use Rattle.row.proofs.Rooms.{length-items, an_item}
 use Rattle.row.proofs.row.Row.get.Goals as goal
 

@@ -1,4 +1,4 @@
-use Rattle.std.proofs.Common.{◌≡◌, ◌+◌, ◌*◌, ◌/◌, suc, length, add-one, arith}
+use Rattle.std.proofs.Common.{◌≡◌, ◌*◌, ◌/◌, suc, add-one, arith}
 use Rattle.std.specs.List.{insert}
 use Rattle.row.specs.Row.{room, order, block_end}
 use Rattle.row.proofs.Rooms.{length-order}

@@ -1,10 +1,10 @@
-use Rattle.std.proofs.Common.{◌≡◌, ◌-◌, ◌*◌, ◌/◌, ◌≤◌, min, List, length, get_or, take, Some, sym, refl, ap, ◌∙◌, arith}
+use Rattle.std.proofs.Common.{◌≡◌, ◌-◌, ◌*◌, ◌≤◌, List, length, get_or, take, Some, sym, refl, ap, ◌∙◌, arith}
 use Rattle.std.specs.List.{remove}
-use Rattle.std.proofs.lemmas.Option.{slice_get_past, slice_get-get_or}
+use Rattle.std.proofs.lemmas.Option.{slice_get-get_or}
 use Rattle.std.proofs.lemmas.List.{length-take-le}
 use Rattle.row.specs.Row.{items, room, outside, order, block_end}
 use Rattle.row.proofs.Cascade.{carried_start, carried_step, carried_end}
-use Rattle.row.proofs.Lists.{removed_past, taken_out}
+use Rattle.row.proofs.Lists.{taken_out}
 use Rattle.row.proofs.Rooms.{length-items, length-order, items-order, kept_again}
 use Rattle.row.proofs.row.Row.remove.Goals as goal
 

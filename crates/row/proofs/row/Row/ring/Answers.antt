@@ -1,5 +1,5 @@
-use Rattle.std.proofs.Common.{◌-◌, ◌*◌, arith}
-use Rattle.row.specs.Row.{room, block_end}
+use Rattle.std.proofs.Common.{arith}
+use Rattle.row.specs.Row.{room}
 use Rattle.row.proofs.Rings.{length_block, of_block}
 use Rattle.row.proofs.Rooms.{block_in}
 use Rattle.row.proofs.row.Row.ring.Goals as goal

@@ -1,4 +1,4 @@
-use Rattle.std.proofs.Common.{◌≡◌, ◌+◌, ◌-◌, ◌*◌, ◌<◌, ◌⊎◌, length, get_or, take, drop, refl, ◌∙◌, inl, inr, arith}
+use Rattle.std.proofs.Common.{◌≡◌, ◌+◌, ◌-◌, ◌*◌, ◌<◌, ◌⊎◌, length, get_or, take, drop, refl, inl, inr, arith}
 use Rattle.row.specs.Row.{room, block_end}
 use Rattle.row.proofs.Rings.{length_block, turned, cell_in}
 use Rattle.row.proofs.Rooms.{block_in, kept_set}

@@ -1,5 +1,5 @@
-use Rattle.std.proofs.Common.{◌≡◌, ◌-◌, ◌/◌, length, min, refl, ◌∙◌, arith}
-use Rattle.row.specs.Row.{room, block_end}
+use Rattle.std.proofs.Common.{◌≡◌, ◌-◌, ◌/◌, length, refl, ◌∙◌, arith}
+use Rattle.row.specs.Row.{room}
 use Rattle.row.proofs.Rooms.{block_in, kept_by}
 use Rattle.row.proofs.Rings.{length_block, passed_on}
 use Rattle.row.proofs.row.Row.shift_up.Goals as goal
