@@ -10,7 +10,7 @@ module _ {X : Type 0} where
     pub after : min s n ≤ at
     pub before : at ≤ s
     pub within : at ≤ m
-    pub is : insert c at x ≡ t
+    pub is : t ≡ insert c at x
 
   -- a list is another with some cell put in at a place from n to m
   pub record PutPast (l : List X) (x : X) (n m : ℕ) (t : List X) : Type 0 where

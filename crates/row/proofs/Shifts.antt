@@ -1,8 +1,9 @@
 -- What a shift of a run of cells leaves, and a cell put into or taken out of a ring.
-use Rattle.std.proofs.Common.{◌≡◌, ℕ, zero, suc, ◌+◌, ◌-◌, ◌<◌, ◌≤◌, ◌⊎◌, List, [], ◌∷◌, ◌++◌, length, get_or, take, drop, set, sym, refl, ap, ◌∙◌, subst, inl, inr, arith}
+use Rattle.std.proofs.Common.{◌≡◌, ℕ, zero, suc, ◌+◌, ◌-◌, ◌<◌, ◌≤◌, ◌⊎◌, List, [], ◌∷◌, ◌++◌, Some, length, get_or, take, drop, set, sym, refl, ap, ◌∙◌, subst, inl, inr, arith}
 use lib.Seq.{take-append-add, paste}
 use borrow.Rule.Slice.PartMut.{put_mid}
-use Rattle.std.specs.List.{insert}
+use Rattle.std.specs.List.{insert, slice_get}
+use Rattle.std.proofs.lemmas.Option.{slice_get_past, get_or_from_slice_get}
 use Rattle.std.proofs.lemmas.List.{take_at, drop_at, set_at, append_assoc, append-nil, take-append-drop, drop_more, take_more, drop-drop, length-take-le, length-drop, length-append, nil_from_length, take_all, drop_all, set-set, set-get_or, get_or-set_same, drop-set, take-set, length-set}
 use Rattle.std.proofs.lemmas.List.Edits.{length-insert}
 use Rattle.row.proofs.Lists.{inserted_mid, length_put_mid, put_back}
@@ -10,15 +11,10 @@ use Rattle.row.proofs.Rings.{length-ring}
 use Rattle.row.specs.Rings.{ring}
 
 module _ {X : Type 0} where
-  pub up_none : (r : List X) (x : X) → length r ≡ 0 → x ∷ r ≡ r ++ x ∷ []
-  up_none r x e = rw (nil_from_length r e)
-
-  pub down_none : (r : List X) (x : X) → length r ≡ 0 → r ++ x ∷ [] ≡ x ∷ r
-  down_none r x e = rw (nil_from_length r e)
-
-  pub up : (r s : List X) (x y : X) → (length r ≡ 0 → ⊥) → y ≡ get_or r (length r - 1) y → s ≡ paste r 1 r (length r - 1 - 0) → x ∷ r ≡ set s 0 x ++ y ∷ []
-  up [] s x y ne g e = absurd (ne refl)
-  up (z ∷ r) s x y ne g e =
+  pub up : (r s : List X) (x y : X) → slice_get r (length r - 1) ≡ Some y → s ≡ paste r 1 r (length r - 1 - 0) → x ∷ r ≡ set s 0 x ++ y ∷ []
+  up [] s x y h e = let z = slice_get_past {X = X} [] (length {A = X} [] - 1) (omega arith) in cc
+  up (z ∷ r) s x y h e =
+      let g : y ≡ get_or (z ∷ r) (length (z ∷ r) - 1) y = sym (get_or_from_slice_get (z ∷ r) (length (z ∷ r) - 1) y y h) in
       let n : length (z ∷ r) - 1 - 0 ≡ length r = omega arith in
       let m : length (z ∷ r) - 1 ≡ length r = omega arith in
       let k : 1 + length r ≡ suc (length r) = omega arith in
@@ -30,9 +26,10 @@ module _ {X : Type 0} where
       let g' : y ≡ get_or (z ∷ r) (length r) y = rw m at g in
       rw e' (ap (λ (t : List X). x ∷ t) (sym a ∙ t ∙ ap (λ (v : X). take (length r) (z ∷ r) ++ v ∷ []) (sym g')))
 
-  pub down : (r s : List X) (x y : X) → (length r ≡ 0 → ⊥) → y ≡ get_or r 0 y → s ≡ paste r 0 (drop 1 r) (length r - 1) → r ++ x ∷ [] ≡ y ∷ set s (length r - 1) x
-  down [] s x y ne g e = absurd (ne refl)
-  down (z ∷ r) s x y ne g e =
+  pub down : (r s : List X) (x y : X) → slice_get r 0 ≡ Some y → s ≡ paste r 0 (drop 1 r) (length r - 1) → r ++ x ∷ [] ≡ y ∷ set s (length r - 1) x
+  down [] s x y h e = let z = slice_get_past {X = X} [] 0 (omega arith) in cc
+  down (z ∷ r) s x y h e =
+      let g : y ≡ get_or (z ∷ r) 0 y = sym (get_or_from_slice_get (z ∷ r) 0 y y h) in
       let m : length (z ∷ r) - 1 ≡ length r = omega arith in
       let k : 0 + length r ≡ length r = omega arith in
       let a : take (length r) r ≡ r = take_all (length r) r (omega arith) in

@@ -17,11 +17,9 @@ fn move_up<T: Copy>(run: &mut [T])
 fn push_front<T: Copy>(run: &mut [T], x: T) -> T
     ensures { x ∷ run.old ≡ run.new ++ result ∷ [] }
 {
-    let n = run.len();
-    if n == 0 {
+    let Some(&out) = run.last() else {
         return x;
-    }
-    let out = run[n - 1];
+    };
     move_up(run);
     run[0] = x;
     out
@@ -31,11 +29,10 @@ fn push_front<T: Copy>(run: &mut [T], x: T) -> T
 fn push_back<T: Copy>(run: &mut [T], x: T) -> T
     ensures { run.old ++ x ∷ [] ≡ result ∷ run.new }
 {
-    let n = run.len();
-    if n == 0 {
+    let Some(&out) = run.first() else {
         return x;
-    }
-    let out = run[0];
+    };
+    let n = run.len();
     run.copy_within(1..n, 0);
     run[n - 1] = x;
     out

@@ -14,7 +14,7 @@ loop-b-init g c =
     let l = length-items r in
     record {
       kept = k;
-      left = record { at = block_end r (c.args.i / 256); after = omega arith; before = omega arith; within = omega arith; is = sym f.ensures.items };
+      left = record { at = block_end r (c.args.i / 256); after = omega arith; before = omega arith; within = omega arith; is = f.ensures.items };
     }
 
 pub loop-b-preserved : goal.loop-b-preserved
@@ -28,9 +28,10 @@ loop-b-preserved g c =
     let p = c.loop-b.invariant.left in
     let l = length-items r in
     let here : p.at ≡ c.loop-b.b * 256 = omega (arith, p.after, p.before) in
+    let q : insert (order r) c.args.i c.args.x ≡ insert (order s) (c.loop-b.b * 256) c.loop-b.carried = rw here at p.is in
     record {
       kept = kept_again r s f.new.self k f.ensures.kept;
-      left = record { at = block_end s c.loop-b.b; after = omega arith; before = omega arith; within = omega arith; is = sym f.ensures.items ∙ rw here at p.is };
+      left = record { at = block_end s c.loop-b.b; after = omega arith; before = omega arith; within = omega arith; is = q ∙ f.ensures.items };
     }
 
 pub returns-clause-effect : goal.returns-clause-effect
@@ -45,7 +46,7 @@ returns-clause-effect g c _ =
     let h : length r.heads ≡ 128 = omega arith in
     let h' : length s.heads ≡ 128 = omega arith in
     items-order _ (r.len + 1) h' (omega (arith, k.len))
-    ∙ grown (order r) (order s) c.args.i r.len p.at c.args.x c.loop-b.carried (omega arith) (omega (arith, length-order r)) (omega (arith, p.after)) (omega (arith, length-order s, p.within)) p.is
+    ∙ grown (order r) (order s) c.args.i r.len p.at c.args.x c.loop-b.carried (omega arith) (omega (arith, length-order r)) (omega (arith, p.after)) (omega (arith, length-order s, p.within)) (sym p.is)
     ∙ ap (λ (t : List _). insert t c.args.i c.args.x) (sym (items-order r r.len h refl))
 
 pub returns-clause-outside : goal.returns-clause-outside

@@ -42,10 +42,10 @@ returns g c =
     let m = bit_le b 1 in
     let xs = turned c.args.self.now in
     let one : 2 ^ c.loop-j.j ≡ 1 = let z : c.loop-j.j ≡ 0 = omega arith in rw z in
-    let r : lo + cond b 1 0 ≡ lo + c.power_if.result = ap (λ (v : ℕ). lo + v) (sym c.power_if.ensures) in
+    let r : c.power_if.result ≡ cond b 1 0 = c.power_if.ensures in
     record {
       within = omega arith;
       window = λ p k part. (let W : Window p xs n lo (lo + 1) = subst (λ (v : ℕ). Window p xs n lo (lo + v)) one (c.loop-j.invariant.1 p k part) in
           let V = last p xs n lo c.at-2.result b part W (omega arith) c.at-2.ensures (computed g.met.F.FnMut.1 p k c.pred-2.ensures) in
-          subst (λ (v : ℕ). Window p xs n v v) r V);
+          subst (λ (v : ℕ). Window p xs n (lo + v) (lo + v)) (sym r) V);
     }
