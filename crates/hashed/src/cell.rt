@@ -4,7 +4,7 @@ ghost use Rattle.hashed.specs.Cells.{nowhere, target};
 
 /// Leads to a cell by its number. A number past the cells in use leads to none: that link ends a list.
 #[derive(Clone, Copy, PartialEq, Eq, Debug)]
-pub struct Link(u16);
+pub struct Link(pub u16);
 
 impl Link {
     /// Leads to no cell.

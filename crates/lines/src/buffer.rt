@@ -1,11 +1,9 @@
-// The line that is being read. Its methods stand in a module of their own, since their contracts
-// cite a definition over the struct.
+// The line that is being read.
 ghost use Rattle.std.specs.Prelude.{◌≤◌};
 ghost use Rattle.arrayvec.specs.ArrayVec.{array_vec_len};
 
 use arrayvec::ArrayVec;
-
-mod methods;
+use std::io::Write;
 
 /// The most bytes that a line may have, its end not counted.
 pub const LONGEST_LINE: usize = 256;
@@ -18,4 +16,58 @@ const KEPT: usize = 257;
 pub struct LineBuffer {
     bytes: ArrayVec<u8, KEPT>,
     ghost within: { array_vec_len bytes ≤ 257 },
+}
+
+impl LineBuffer {
+    ghost use Rattle.std.specs.Prelude.{◌≡◌, [], ◌∷◌, ◌++◌, length, take};
+    ghost use Rattle.std.specs.Option.{unwrap_or};
+    ghost use Rattle.lines.specs.Buffer.{contents, kept};
+    ghost use Rattle.lines.specs.Position.{FirstPlace};
+
+    /// An empty line.
+    pub fn new() -> LineBuffer
+        ensures { contents result ≡ [] }
+    {
+        LineBuffer {
+            bytes: ArrayVec::new(),
+        }
+    }
+
+    /// Begins a new line.
+    pub fn clear(&mut self)
+        ensures { contents self.new ≡ [] }
+    {
+        self.bytes.clear();
+    }
+
+    /// What is kept of the line.
+    pub fn as_bytes(&self) -> &[u8]
+        ensures { result.now ≡ contents self.now }
+    {
+        self.bytes.as_slice()
+    }
+
+    /// Adds a byte to the line.
+    pub fn push(&mut self, byte: u8)
+        ensures { contents self.new ≡ kept (contents self.old ++ byte ∷ []) }
+    {
+        self.extend(&[byte]);
+    }
+
+    /// Adds a block up to the line's end, and answers where in the block the end is, if it is there.
+    pub fn add_block(&mut self, block: &[u8]) -> Option<usize>
+        ensures end { FirstPlace 10 block.now result }
+        ensures added { contents self.new ≡ kept (contents self.old ++ take (unwrap_or result (length block.now)) block.now) }
+    {
+        let end = block.iter().position(|&b| b == b'\n');
+        self.extend(&block[..end.unwrap_or(block.len())]);
+        end
+    }
+
+    // A write takes as many bytes as there is room for.
+    fn extend(&mut self, bytes: &[u8])
+        ensures { contents self.new ≡ kept (contents self.old ++ bytes.now) }
+    {
+        let _taken = self.bytes.write(bytes);
+    }
 }
