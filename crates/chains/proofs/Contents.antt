@@ -176,14 +176,6 @@ module _ {K V : Type 0} {less : K → K → Bool} (o : StrictOrder less) where
 
   -- ---- what follows from that
 
-  pub with_own : (es : List (K × List V)) (k : K) → Ascending less es → with_sequence less es k (sequence less es k) ≡ es
-  with_own es k r =
-      ext _ es (with_ascending es k (sequence less es k) r) r
-      (λ j. ⊎_elim
-      (λ t. let e = same_eq o k j t in let s = with_same es k (sequence less es k) r in cc)
-      (λ f. with_other es k (sequence less es k) j f)
-      (cases_Bool (same less k j)))
-
   -- contents that have the new sequence at k, and the old one at each other key, are those with that sequence
   pub with_known : (xs ys : List (K × List V)) (k : K) (vs : List V) → Ascending less xs → Ascending less ys → sequence less ys k ≡ vs
       → ((j : K) → same less k j ≡ false → sequence less ys j ≡ sequence less xs j) → ys ≡ with_sequence less xs k vs

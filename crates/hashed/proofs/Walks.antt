@@ -1,5 +1,5 @@
 -- A walk through the list of a bucket, on the way.
-use Rattle.std.proofs.Common.{◌≡◌, ℕ, ◌+◌, ◌<◌, ◌≤◌, Bool, true, false, cond, List, [], ◌∷◌, ◌++◌, length, Some, None, Option, sym, refl, ap, ◌∙◌, subst, append_assoc, arith, length-append}
+use Rattle.std.proofs.Common.{◌≡◌, ℕ, ◌+◌, ◌<◌, ◌≤◌, Bool, true, false, cond, List, [], ◌∷◌, ◌++◌, length, Some, Option, sym, refl, ap, ◌∙◌, subst, append_assoc, arith, length-append}
 use Rattle.keys.specs.Order.{same}
 use Rattle.hashed.specs.declared.cell.Cell.{Cell}
 use Rattle.hashed.specs.Links.{walk, Linked, onto, collected, LastIs}
@@ -27,9 +27,6 @@ pub record Walking {K V : Type 0} (less : K → K → Bool) (n : ℕ) (cells : L
   pub most : passed ≤ rank
 
 module _ {K V : Type 0} (less : K → K → Bool) (n : ℕ) (cells : List (Cell K V)) (xs : List ℕ) (k : K) (rank : ℕ) where
-  pub walk_start : (l : Option ℕ) → Linked (next_of n cells) l xs → Walking less n cells xs k rank None l 0
-  walk_start l c = record { before = []; rest = xs; parts = refl; ahead = c; last = refl; near = λ y e. absurd cc; count = refl; most = omega arith }
-
   -- what a cell adds to the values of the key
   gain : (o : Option (K × V)) (e : K × V) (t : Bool) → o ≡ Some e → same less e.0 k ≡ t → length (values_in less (onto o []) k) ≡ cond t 1 0
   gain o e true q h = ap (λ (w : Option (K × V)). length (values_in less (onto w []) k)) q ∙ ap (λ (b : Bool). length (cond b (e.1 ∷ []) [])) h
@@ -39,9 +36,6 @@ module _ {K V : Type 0} (less : K → K → Bool) (n : ℕ) (cells : List (Cell 
     stopped : ((x : ℕ) → here ≡ Some x → (passed ≡ rank) × ((e : K × V) × (entry_of cells x ≡ Some e) × (same less e.0 k ≡ true))) → Found less cells xs k rank previous here passed
     stopped stops =
         record { before = s.before; rest = s.rest; parts = s.parts; at = linked_start (next_of n cells) here s.rest s.ahead; last = s.last; count = s.count; most = s.most; stops = stops }
-
-    pub walk_end : here ≡ None → Found less cells xs k rank previous here passed
-    walk_end e = stopped (λ y q. absurd cc)
 
     module _ (x : ℕ) (e : K × V) (at : here ≡ Some x) (is : entry_of cells x ≡ Some e) where
       pub walk-found : same less e.0 k ≡ true → passed ≡ rank → Found less cells xs k rank previous here passed

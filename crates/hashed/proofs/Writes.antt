@@ -31,9 +31,6 @@ module _ {K V : Type 0} (n : ℕ) (cells : List (Cell K V)) (x : ℕ) (r : Cell 
   pub read_next : next_of n cells x ≡ target n r.next.0
   read_next = ap (next_in n) read_nth
 
-  pub read_first : first_of n cells x ≡ target n r.first.0
-  read_first = ap (first_in n) read_nth
-
   pub read_entry : entry_of cells x ≡ Some (r.key, r.value)
   read_entry = ap entry_in read_nth
 

@@ -8,7 +8,6 @@ use Rattle.keys.specs.declared.letters.LettersKey.{LettersKey}
 use Rattle.chains.specs.Contents.{sequence, used, Ascending, first_key, key_above}
 use Rattle.chains.proofs.Entries.{contents-ascending, contents-used}
 use Rattle.row.proofs.Rooms.{items_fit, room_small}
-use Rattle.ordered.proofs.Effects.{stretch_within}
 use Rattle.ordered.specs.Store.{entries}
 use Rattle.listing.specs.Listing.{contents}
 use Rattle.listing.specs.declared.listing.Listing.{Listing}
@@ -48,9 +47,6 @@ held-ascending l = contents-ascending letters_order (λ e. e.key) (λ e. e.value
 
 pub keys_small : (l : Listing) → length (contents l) ≤ 32768
 keys_small l = omega (arith, keys_le_total (contents l) (held-ascending l), total-small l)
-
-pub places_small : (l : Listing) (key : LettersKey) → length (sequence letters_less (contents l) key) ≤ 32768
-places_small l key = omega (arith, stretch_within letters_order (entries l.store) key, items_fit l.store.row, room_small l.store.row)
 
 lines_text-append : (c d : List (LettersKey × List ℕ)) → lines_text (c ++ d) ≡ lines_text c ++ lines_text d
 lines_text-append [] d = refl

@@ -4,7 +4,7 @@ use lib.Seq.{take-append-add, paste}
 use borrow.Rule.Slice.PartMut.{put_mid}
 use Rattle.std.specs.List.{insert, slice_get}
 use Rattle.std.proofs.lemmas.Option.{slice_get_past, get_or_from_slice_get}
-use Rattle.std.proofs.lemmas.List.{take_at, drop_at, set_at, append_assoc, append-nil, take-append-drop, drop_more, take_more, drop-drop, length-take-le, length-drop, length-append, nil_from_length, take_all, drop_all, set-set, set-get_or, get_or-set_same, drop-set, take-set, length-set}
+use Rattle.std.proofs.lemmas.List.{take_at, drop_at, set_at, append_assoc, append-nil, take-append-drop, drop_more, take_more, drop-drop, length-take-le, length-drop, length-append, take_all, drop_all, set-set, set-get_or, get_or-set_same, drop-set, take-set, length-set}
 use Rattle.std.proofs.lemmas.List.Edits.{length-insert}
 use Rattle.row.proofs.Lists.{inserted_mid, length_put_mid, put_back}
 use Rattle.row.proofs.Rings.{length-ring}

@@ -1,10 +1,9 @@
 -- The steps of a workload, and how many calls an empty store accepts.
-use Rattle.std.proofs.Common.{◌≡◌, ℕ, ◌+◌, ◌-◌, ◌<◌, ◌≤◌, min, Bool, true, false, cond, List, [], ◌∷◌, length, get_or, take, drop, is_ok, Ok, Err, count_by, Result, sym, refl, ap, ◌∙◌, subst, ⊎_elim, arith}
+use Rattle.std.proofs.Common.{◌≡◌, ℕ, ◌+◌, ◌-◌, ◌<◌, ◌≤◌, min, Bool, true, false, cond, List, [], ◌∷◌, length, get_or, drop, is_ok, Ok, Err, Result, sym, refl, ap, ◌∙◌, subst, ⊎_elim, arith}
 use mir.Val.{bool_byte}
 use Rattle.std.specs.List.{insert}
 use Rattle.std.proofs.lemmas.List.Edits.{length-insert}
 use Rattle.std.proofs.lemmas.List.{drop_more}
-use Rattle.std.proofs.lemmas.List.Sums.{sum_by_more}
 use Rattle.std.proofs.lemmas.Bool.{cases_lt}
 use Rattle.keys.proofs.Orders.{letters_order}
 use Rattle.keys.specs.Letters.{letters_less}
@@ -23,9 +22,6 @@ use Rattle.speed.specs.Workload.{Numbers, key_of, empty, filled, accepted, taken
 pub counted : (n : ℕ) (b b' : Bool) → n ≡ bool_byte b → b ≡ b' → (n ≤ 1) × (n ≡ cond b' 1 0)
 counted n true b' e f = (omega (arith, e), e ∙ ap (λ (v : Bool). cond v 1 0) f)
 counted n false b' e f = (omega (arith, e), e ∙ ap (λ (v : Bool). cond v 1 0) f)
-
-pub count_on : (p : ℕ → Bool) (ks : List ℕ) (i : ℕ) → i < length ks → count_by p (take (i + 1) ks) ≡ count_by p (take i ks) + cond (p (get_or ks i 0)) 1 0
-count_on p ks i lt = sum_by_more (λ x. cond (p x) 1 0) ks i 0 lt
 
 pub put_on : (s s' : Numbers) (r : Result (Unit {0}) Refusal) (ks : List ℕ) (i n : ℕ) → i < length ks → n ≡ get_or ks i 0 → (r, s') ≡ put_outcome letters_less s (key_of n) 0 0
     → (filled s' (drop (i + 1) ks) ≡ filled s (drop i ks)) × (cond (is_ok r) 1 0 + accepted s' (drop (i + 1) ks) ≡ accepted s (drop i ks))

@@ -1,16 +1,10 @@
 -- The last and the neighbouring keys of contents in two parts.
-use Rattle.std.proofs.Common.{◌≡◌, Bool, List, [], ◌∷◌, ◌++◌, None, Option, refl, arith}
+use Rattle.std.proofs.Common.{◌≡◌, Bool, List, [], ◌∷◌, ◌++◌, refl, arith}
 use Rattle.std.specs.Option.{option_or}
 use Rattle.keys.specs.Order.{StrictOrder}
-use Rattle.chains.specs.Contents.{BelowAll, or_else, first_key, last_key, key_above, key_below}
+use Rattle.chains.specs.Contents.{BelowAll, first_key, last_key, key_above, key_below}
 use Rattle.chains.proofs.Orders.{asymmetric}
 use Rattle.split.specs.Joined.{AllBelow}
-
-or_none : {K : Type 0} (p : Option K) → p ≡ option_or p None
-or_none p = grind arith
-
-or_behind : {K : Type 0} (p q : Option K) (k : K) → or_else (option_or p q) k ≡ option_or p (or_else q k)
-or_behind p q k = grind arith
 
 module _ {K V : Type 0} where
   pub last_append : (xs ys : List (K × List V)) → last_key (xs ++ ys) ≡ option_or (last_key ys) (last_key xs)

@@ -1,4 +1,4 @@
-use Rattle.std.proofs.Common.{◌≡◌, ℕ, ◌+◌, ◌-◌, ◌^◌, cond, sym, ap, ◌∙◌, subst, arith, pow_pos}
+use Rattle.std.proofs.Common.{◌≡◌, ℕ, ◌+◌, ◌-◌, ◌^◌, cond, sym, ◌∙◌, subst, arith, pow_pos}
 use Rattle.row.specs.Partition.{Window}
 use Rattle.row.specs.Row.{turned}
 use Rattle.row.proofs.Windows.{computed, pow_half, bit_le, first, halved, last}
