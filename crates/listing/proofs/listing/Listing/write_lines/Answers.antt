@@ -16,11 +16,6 @@ overflow_add-places g c =
     c.in-Some.key _ c.count-places.result (held-ascending l) c.in-Some.is refl c.count-places.ensures in
     omega (arith, more.counted, total-small l)
 
-pub loop-next-smaller : goal.loop-next-smaller
-loop-next-smaller g c =
-    let l = c.args.self.now in
-    omega (arith, key_within (contents l) c.loop-next.keys c.loop-next.next c.loop-next.places c.loop-next.invariant.0 c.in-Some.key (held-ascending l) c.in-Some.is)
-
 pub loop-next-preserved : goal.loop-next-preserved
 loop-next-preserved g c =
     let l = c.args.self.now in
@@ -36,6 +31,3 @@ returns-clause-text g c =
 
 pub returns-clause-keys : goal.returns-clause-keys
 returns-clause-keys g c = (listed_all (contents c.args.self.now) c.loop-next.keys c.loop-next.next c.loop-next.places c.loop-next.invariant.0 c.in_default.is).0
-
-pub returns-clause-places : goal.returns-clause-places
-returns-clause-places g c = (listed_all (contents c.args.self.now) c.loop-next.keys c.loop-next.next c.loop-next.places c.loop-next.invariant.0 c.in_default.is).1
