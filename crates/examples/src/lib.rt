@@ -2,6 +2,8 @@
 #![tactic(auto)]
 
 #[cfg(test)]
+mod letters;
+#[cfg(test)]
 mod outputs;
 #[cfg(test)]
 mod registers;

@@ -1,30 +1,25 @@
 // The hashed store and the register's store on examples.
+use crate::letters::key;
 use chains::ChainStore;
 use hashed::{Cell, Hashed};
-use keys::{Length, LettersKey, Translator};
+use keys::{Length, Translator};
 use register::{Use, register_store};
-
-fn key(n: u32) -> LettersKey {
-    LettersKey {
-        number: u64::from(n),
-    }
-}
 
 #[test]
 fn a_hashed_store_fills_to_its_last_cell_again_and_again(rt: HostRuntime) {
     let mut cells = [Cell::new(key(0), 0u32); 40];
     let mut store = Hashed::new(&mut cells);
     for n in 0..40u32 {
-        assert!(rt; store.put(key(n % 7), 0, n).is_ok());
+        assert!(rt; store.put(key(u64::from(n % 7)), 0, n).is_ok());
     }
     assert!(rt; store.put(key(50), 0, 1).is_err());
     assert_eq!(rt; store.count(key(4)), 6);
     assert_eq!(rt; store.value(key(4), 1), Some(32));
     for n in 0..40u32 {
-        assert!(rt; store.take(key(n % 7), 0));
+        assert!(rt; store.take(key(u64::from(n % 7)), 0));
     }
     for n in 0..40u32 {
-        assert!(rt; store.put(key(n), 0, n).is_ok());
+        assert!(rt; store.put(key(u64::from(n)), 0, n).is_ok());
     }
     assert!(rt; store.put(key(50), 0, 1).is_err());
     assert_eq!(rt; store.value(key(39), 0), Some(39));

@@ -1,12 +1,8 @@
 // What a split does on examples.
+use crate::letters::key;
 use chains::{ChainStore, OrderedStore, Refusal};
-use keys::LettersKey;
 use ordered::{Cell, Ordered};
 use split::Split;
-
-fn key(number: u64) -> LettersKey {
-    LettersKey { number }
-}
 
 #[test]
 fn each_side_has_its_own_room(rt: HostRuntime) {

@@ -26,7 +26,7 @@ impl<'a, K: Key, V: Copy> ChainStore for Ordered<'a, K, V> {
     }
 
     fn count(&self, key: K) -> usize {
-        self.end(key).saturating_sub(self.start(key))
+        self.end(key) - self.start(key)
     }
 
     fn value(&self, key: K, rank: usize) -> Option<V> {
