@@ -28,7 +28,7 @@ pub(crate) fn bucket_for<K: Key>(key: K, room: usize) -> usize
     (key.hash_number() % room as u64) as usize
 }
 
-/// Whether two keys are the same.
+/// Whether two keys are the same: neither is smaller. (`==` would ask more of a key kind, and promise less.)
 fn is_same<K: Key>(a: &K, b: &K) -> bool
     ensures { result ≡ same K.Key.less a.now b.now }
 {

@@ -44,7 +44,7 @@ impl<'a> Listing<'a> {
         self.store.put(Letters.transform(answer), 0, place)
     }
 
-    /// Writes the lines of all keys, rising.
+    /// Writes the lines of all keys, rising, and counts keys and places in the same walk.
     fn write_lines<W: Write>(&self, f: &mut Formatter<W>) -> Result<Totals, fmt::Error>
         ensures text { IsPlainFormatter f.old → IfOk result (λ t. HasWritten W.Write.write_str_gives f.old (lines_text (contents self.now)) f.new) }
         ensures keys { IfOk result (λ t. t.keys ≡ length (contents self.now)) }

@@ -1,4 +1,5 @@
-// One call of the store for each of many keys, and how many of them gave something.
+// One call of the store for each of many keys, and how many of them gave something. Calls that change the store stand in
+// a `for`: of a store that an iterator's closure changed nothing would be known afterwards.
 ghost use Rattle.std.specs.Prelude.{◌≡◌, count_by};
 ghost use Rattle.ordered.specs.Store.{state};
 ghost use Rattle.speed.specs.Workload.{filled, accepted, taken, has_value, has_above};

@@ -1,4 +1,4 @@
-// The exported workloads.
+// The exported workloads. C calls each, so each has the cells of its store in its own frame.
 ghost use Rattle.std.specs.Prelude.{◌≡◌, min, length, count_by};
 ghost use Rattle.speed.specs.Workload.{empty, filled, taken};
 ghost use Rattle.speed.specs.Workload.{has_value, has_above};

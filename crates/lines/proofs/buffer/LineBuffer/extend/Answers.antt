@@ -1,6 +1,6 @@
-use Rattle.std.proofs.Common.{◌≤◌, Some, length, sym, ◌∙◌, subst}
+use Rattle.std.proofs.Common.{Some, ◌∙◌, subst}
 use Rattle.std.specs.Io.KnownBytes.{WriteAppends}
-use Rattle.lines.proofs.Kept.{filled, within}
+use Rattle.lines.proofs.Kept.{filled}
 use Rattle.lines.proofs.buffer.LineBuffer.extend.Goals as goal
 
 pub returns : goal.returns
@@ -9,10 +9,3 @@ returns c =
     let written = c.write-taken.new.self.items in
     let added = subst (λ r. WriteAppends (Some line) (Some written) r c.args.bytes.now) c.write-taken.ensures.count c.write-taken.ensures.bytes in
     added ∙ filled line c.args.bytes.now c.args.self.now.within
-
-pub invariant_of-self : goal.invariant_of-self
-invariant_of-self c =
-    let line = c.args.self.now.bytes.items in
-    let written = c.write-taken.new.self.items in
-    let added = subst (λ r. WriteAppends (Some line) (Some written) r c.args.bytes.now) c.write-taken.ensures.count c.write-taken.ensures.bytes in
-    record { within = subst (λ l. length l ≤ 257) (sym added) (within line c.args.bytes.now c.args.self.now.within) }

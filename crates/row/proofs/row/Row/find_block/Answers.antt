@@ -36,11 +36,3 @@ loop-j-preserved g c =
           let V = halved_block p xs n 256 h b c.block_first-in-loop-j.result t part W (omega arith) E (computed g.met.F.FnMut.1 p k c.pred-in-loop-j.ensures) in
           subst (λ (v : ℕ). Window p xs n ((b + v) * 256) ((b + v + h) * 256)) (sym r) V,
     )
-
-pub returns : goal.returns
-returns g c =
-    let one : 2 ^ c.loop-j.j ≡ 1 = let z : c.loop-j.j ≡ 0 = omega arith in rw z in
-    record {
-      within = omega arith;
-      window = λ p k part. subst (λ (v : ℕ). Window p (order c.args.self.now) c.args.self.now.len (c.loop-j.b * 256) ((c.loop-j.b + v) * 256)) one (c.loop-j.invariant.1 p k part);
-    }

@@ -12,12 +12,6 @@ returns-then-self-eq0 g c =
     let n : items c.args.self.now ≡ [] = nil_from_length (items c.args.self.now) (omega (arith, length-items c.args.self.now)) in
     record { within = omega arith; point = λ p k part. rw n }
 
-pub partition_point-requires : goal.partition_point-requires
-unfolding room
-partition_point-requires g c =
-    let r = c.args.self.now in
-    record { callable = c.requires; some = omega (arith, r.fits, c.ring-ring.result.within); room = omega arith }
-
 pub returns : goal.returns
 unfolding room
 returns g c =
