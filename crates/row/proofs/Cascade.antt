@@ -1,5 +1,5 @@
 -- The cell that an insert or a remove carries from block to block, and what a remove leaves.
-use Rattle.std.proofs.Common.{◌≡◌, ℕ, ◌-◌, ◌<◌, ◌≤◌, min, List, length, take, sym, refl, ap, ◌∙◌, arith}
+use Rattle.std.proofs.Common.{◌≡◌, ℕ, ◌-◌, ◌<◌, ◌≤◌, min, List, length, take, sym, ◌∙◌, arith}
 use Rattle.std.specs.List.{insert}
 use Rattle.row.proofs.Lists.{shrunk}
 
@@ -23,17 +23,7 @@ module _ {X : Type 0} where
   pub record Carried (c : List X) (x : X) (s n : ℕ) (l : List X) (x0 : X) : Type 0 where
     pub put : (q : ℕ) → min s n ≤ q → q ≤ s → q ≤ length c → PutPast l x0 n (length c) (insert c q x)
 
-  pub carried_start : (l : List X) (x : X) (s n : ℕ) → n ≤ s → Carried l x s n l x
-  carried_start l x s n le = record { put = λ q lo hi le'. record { at = q; after = omega arith; within = le'; is = refl } }
-
   module _ {c : List X} {x : X} {s n : ℕ} {l : List X} {x0 : X} (D : Carried c x s n l x0) where
-    pub carried_step : (c' : List X) (y : X) (e s' : ℕ) → min s n ≤ e → e ≤ s → e ≤ length c → s' < n → length c' ≡ length c → insert c e x ≡ insert c' s' y → Carried c' y s' n l x0
-    carried_step c' y e s' lo hi le lt n' f = record {
-      put = λ q lo' hi' le'. (let v = D.put e lo hi le in
-          let g : s' ≡ q = omega arith in
-          record { at = v.at; after = v.after; within = rw n' v.within; is = ap (λ (t : ℕ). insert c' t y) (sym g) ∙ sym f ∙ v.is });
-    }
-
     pub carried_end : (q : ℕ) (m : List X) (i : ℕ) (y : X) → min s n ≤ q → q ≤ s → q ≤ length c → i < n → i ≤ length m → length l ≡ length c → insert c q x ≡ insert m i y → take n l ≡ insert (take (n - 1) m) i y
     carried_end q m i y lo hi le lt lm ll f =
         let v = D.put q lo hi le in

@@ -1,40 +1,12 @@
-use Rattle.std.proofs.Common.{◌≡◌, ◌-◌, ◌*◌, ◌≤◌, List, length, get_or, take, Some, sym, refl, ap, ◌∙◌, arith}
+use Rattle.std.proofs.Common.{◌≡◌, ◌-◌, ◌≤◌, List, length, get_or, take, Some, sym, refl, ap, ◌∙◌, arith}
 use Rattle.std.specs.List.{remove}
 use Rattle.std.proofs.lemmas.Option.{slice_get-get_or}
 use Rattle.std.proofs.lemmas.List.{length-take-le}
-use Rattle.row.specs.Row.{items, room, outside, order, block_end}
-use Rattle.row.proofs.Cascade.{carried_start, carried_step, carried_end}
+use Rattle.row.specs.Row.{items, room, outside, order}
+use Rattle.row.proofs.Cascade.{carried_end}
 use Rattle.row.proofs.Lists.{taken_out}
 use Rattle.row.proofs.Rooms.{length-items, length-order, items-order, kept_again}
 use Rattle.row.proofs.row.Row.remove.Goals as goal
-
-pub loop-b-init : goal.loop-b-init
-loop-b-init g c =
-    let l = length-items c.args.self.now in
-    record {
-      kept = record { len = refl; cells = refl; outside = refl };
-      low = omega arith;
-      high = omega arith;
-      carried = carried_start (order c.args.self.now) _ _ c.args.self.now.len (omega arith);
-    }
-
-pub loop-b-preserved : goal.loop-b-preserved
-unfolding room
-loop-b-preserved g c =
-    let r = c.args.self.now in
-    let s = c.loop-b.self in
-    let b = c.loop-b.b - 1 in
-    let f = c.rotate_in_back-carried in
-    let v = c.loop-b.invariant in
-    let k = v.kept in
-    let l = length-items r in
-    let n : length (order f.new.self) ≡ length (order s) = omega (arith, length-order s, length-order f.new.self, f.ensures.kept.cells) in
-    record {
-      kept = kept_again r s f.new.self k f.ensures.kept;
-      low = omega arith;
-      high = omega (arith, v.high);
-      carried = carried_step v.carried (order f.new.self) f.result (block_end s b) (b * 256) (omega (arith, r.fits)) (omega arith) (omega (arith, length-order s)) (omega (arith, v.high)) n f.ensures.items;
-    }
 
 pub returns : goal.returns
 unfolding room outside
