@@ -40,4 +40,10 @@ fn a_full_side_of_the_register_refuses_and_the_other_takes(rt: HostRuntime) {
     assert!(rt; store.take(aria, 1));
     assert!(rt; store.put(aria, 1, first).is_ok());
     assert_eq!(rt; store.count(crossword), 1);
+
+    assert!(rt; store.take(aria, 0) && store.take(crossword, 0) && store.take(aria, 0));
+    assert_eq!(rt; store.count(aria), 0);
+    assert!(rt; store.put(aria, 0, first).is_ok() && store.put(aria, 0, first).is_ok());
+    assert!(rt; store.put(aria, 0, first).is_err());
+    assert!(rt; store.put(crossword, 0, first).is_ok());
 }
