@@ -1,20 +1,28 @@
 // The first bytes of a key as one number, the first byte highest.
-ghost use Rattle.std.specs.Prelude.{◌≡◌, ℕ, ◌<◌, slice_index};
+ghost use Rattle.std.specs.Prelude.{◌≡◌, drop, slice_index};
 ghost use Rattle.keys.specs.Gather.{gathered};
 
-/// The first eight bytes; missing ones are zero.
-fn first_eight(bytes: &[u8]) -> [u8; 8]
-    ensures { (i : ℕ) → i < 8 → slice_index result i ≡ slice_index bytes.now i }
+/// The first byte, zero where there is none, and the bytes after it: a slice pattern names both.
+fn first_and_rest(bytes: &[u8]) -> (u8, &[u8])
+    ensures first { result.0 ≡ slice_index bytes.now 0 }
+    ensures rest { result.1.now ≡ drop 1 bytes.now }
 {
-    let mut first = [0; 8];
-    let n = bytes.len().min(8);
-    first[..n].copy_from_slice(&bytes[..n]);
-    first
+    match bytes {
+        [first, rest @ ..] => (*first, rest),
+        [] => (0, bytes),
+    }
 }
 
-/// The first eight bytes gathered in 64 bits.
+/// The first eight bytes gathered in 64 bits; missing bytes are zero.
 pub(crate) fn gather_eight(bytes: &[u8]) -> u64
     ensures { result ≡ gathered 8 bytes.now }
 {
-    u64::from_be_bytes(first_eight(bytes))
+    let mut number: u64 = 0;
+    let mut rest = bytes;
+    for _ in 0..8u32 {
+        let (first, after) = first_and_rest(rest);
+        number = number * 256 + u64::from(first);
+        rest = after;
+    }
+    number
 }
