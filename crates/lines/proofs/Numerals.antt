@@ -1,53 +1,52 @@
--- What the bytes of a number say.
-use Rattle.std.proofs.Common.{◌≡◌, ◌≢◌, ℕ, ◌<◌, ◌≤◌, true, false, ◌&&◌, List, [], ◌∷◌, length, None, Some, Ok, Err, Result, MatchResult, Bor, refl, ap, arith}
-use Rattle.std.specs.List.{list_all}
-use Rattle.std.proofs.ByRecursion.{All-from_get_or}
-use Rattle.std.specs.Result.{result_ok}
-use Rattle.std.specs.Str.{IsUtf8, all_ascii_digits}
-use Rattle.std.specs.Str.Parse.{digits_value, ParsesUnsigned}
-use Rattle.std.specs.Char.{is_ascii_digit}
-use Rattle.std.proofs.lemmas.Fmt.{IsAscii-from_digits}
-use Rattle.std.proofs.lemmas.Str.{IsUtf8-from_ascii}
-use Rattle.std.proofs.lemmas.Str.Parse.{IsNumeralModel, numerals_by_value, tells_all_ascii_digits, parse_digits, not_in_digits}
+-- The steps of reading a number.
+use Rattle.std.proofs.Common.{◌≡◌, ℕ, suc, ◌+◌, ◌-◌, ◌*◌, ◌^◌, ◌<◌, ◌≤◌, true, false, ◌&&◌, leb, List, [], ◌∷◌, length, get_or, drop, None, Ok, Err, Result, ap, ◌∙◌, pow-suc, arith}
+use native.Mathlib.Nat.{pow-le-pow_right}
+use Rattle.std.specs.Result.{OkIff, result_ok}
+use Rattle.std.specs.Str.Parse.{digits_value, digits_value_after}
+use Rattle.std.specs.Char.{is_ascii_digit, digit_value as digitValue}
+use Rattle.std.specs.Str.{all_ascii_digits}
+use Rattle.std.proofs.lemmas.List.{at_drop_more}
+use Rattle.std.proofs.lemmas.Bool.{and_parts, leb-true}
 use Rattle.std.proofs.lemmas.Bool.Decides.{nat_tests}
 use Rattle.lines.specs.Fields.{Spaceless}
 use Rattle.lines.specs.Number.{number_of}
 
-pub each_digit : (ds : List ℕ) → list_all is_ascii_digit ds ≡ all_ascii_digits ds
-each_digit [] = refl
-each_digit (d ∷ ds) = ap (λ t. is_ascii_digit d && t) (each_digit ds)
+-- a digit more: one power of ten more, and within ten digits no sum wraps
+pub below_more : (n d i : ℕ) → d < 10 → n < 10 ^ i → n * 10 + d < 10 ^ suc i
+below_more n d i h k = omega (arith, pow-suc 10 i)
 
-numerals : IsNumeralModel (λ ds. all_ascii_digits ds ≡ true) (digits_value 10)
-numerals = numerals_by_value _ tells_all_ascii_digits
+pub room : (n i : ℕ) → i < 10 → n < 10 ^ i → n * 10 + 9 < 10 ^ 10
+room n i h k = omega (arith, pow-suc 10 i, pow-le-pow_right {n = 10} (omega arith) {i = suc i} {j = 10} (omega arith))
 
-pub digits_are_text : (ds : List ℕ) → all_ascii_digits ds ≡ true → IsUtf8 ds
-digits_are_text ds e = IsUtf8-from_ascii ds (IsAscii-from_digits ds (numerals.to ds e))
+digit_value : (b : ℕ) → is_ascii_digit b ≡ true → digitValue b ≡ b - 48
+digit_value b e = grind (arith, nat_tests)
 
--- what `parse` reads of at most ten digits is their number
-pub parsed : {E : Type 0} (r : Result ℕ E) (ds : List ℕ) → length ds ≤ 10 → all_ascii_digits ds ≡ true → ParsesUnsigned 32 10 ds r → result_ok r ≡ number_of ds
+-- what is left of the digits, one byte on
+module _ (ds : List ℕ) (i : ℕ) (within : i < length ds) where
+  pub digit_on : is_ascii_digit (get_or ds i 0) ≡ true → all_ascii_digits (drop i ds) ≡ all_ascii_digits (drop (i + 1) ds)
+  digit_on e = at_drop_more all_ascii_digits ds i 0 within ∙ ap (λ t. t && all_ascii_digits (drop (i + 1) ds)) e
+
+  pub value_on : (n : ℕ) → is_ascii_digit (get_or ds i 0) ≡ true → digits_value_after 10 n (drop i ds) ≡ digits_value_after 10 (n * 10 + (get_or ds i 0 - 48)) (drop (i + 1) ds)
+  value_on n e =
+      at_drop_more (digits_value_after 10 n) ds i 0 within ∙ ap (λ d. digits_value_after 10 (n * 10 + d) (drop (i + 1) ds)) (digit_value (get_or ds i 0) e)
+
+  pub other_byte : is_ascii_digit (get_or ds i 0) ≡ false → all_ascii_digits (drop i ds) ≡ false
+  other_byte e = at_drop_more all_ascii_digits ds i 0 within ∙ ap (λ t. t && all_ascii_digits (drop (i + 1) ds)) e
+
+-- the number that digits write is answered where it fits 32 bits, and else none is
+pub answered : {E : Type 0} (r : Result ℕ E) (ds : List ℕ) → 0 < length ds → length ds ≤ 10 → all_ascii_digits ds ≡ true → OkIff r (digits_value 10 ds < 2 ^ 32) (digits_value 10 ds) → result_ok r ≡ number_of ds
 unfolding number_of
-parsed {E} (Ok x) ds k e f = let h = parse_digits numerals {E = E} 32 ds (Ok x) f e in grind (arith, nat_tests)
-parsed {E} (Err x) ds k e f = let h = parse_digits numerals {E = E} 32 ds (Err x) f e in grind (arith, nat_tests)
+answered (Ok x) ds h k e f = grind (arith, nat_tests)
+answered (Err x) ds h k e f = grind (arith, nat_tests)
 
--- bytes that are text are read as they are
-pub read_text : {E : Type 0} (r : Result (Bor (List ℕ)) E) (ds : List ℕ) (Q : E → Type 0) (s : Bor (List ℕ)) → MatchResult r (λ t. (t.now ≡ ds) × IsUtf8 ds) Q → result_ok r ≡ Some s → s.now ≡ ds
-read_text (Ok x) ds Q s h e = cc
-read_text (Err x) ds Q s h e = cc
-
-pub some_text : {E : Type 0} (r : Result (Bor (List ℕ)) E) (ds : List ℕ) (P : Bor (List ℕ) → Type 0) (Q : E → Type 0) → IsUtf8 ds → MatchResult r P (λ e. ¬ (IsUtf8 ds) × Q e) → result_ok r ≡ None → ⊥
-some_text (Ok x) ds P Q u h e = cc
-some_text (Err x) ds P Q u h e = h.0 u
-
--- none is where there are too many bytes
-pub too_long : (ds : List ℕ) → 10 < length ds → number_of ds ≡ None
-unfolding number_of
-too_long ds h = grind (arith, nat_tests)
-
--- and where a byte is no digit
+-- and none is where a byte is no digit
 pub undigited : (ds : List ℕ) → all_ascii_digits ds ≡ false → number_of ds ≡ None
 unfolding number_of
 undigited ds e = grind (arith, nat_tests)
 
 -- digits hold no space
 pub digits_spaceless : (ds : List ℕ) → all_ascii_digits ds ≡ true → Spaceless ds
-digits_spaceless ds e = All-from_get_or (λ b. b ≢ 32) ds 0 (not_in_digits numerals ds 32 e (λ digit. omega (arith, digit.0)))
+digits_spaceless [] e = tt
+digits_spaceless (b ∷ ds) e =
+    let both = and_parts (is_ascii_digit b) (all_ascii_digits ds) e in
+    ((λ space. omega (arith, leb-true 48 b (and_parts (leb 48 b) (leb b 57) both.0).0)), digits_spaceless ds both.1)

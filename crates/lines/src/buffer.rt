@@ -11,6 +11,10 @@ pub const LONGEST_LINE: usize = 256;
 // One byte more, to tell a line that is too long.
 const KEPT: usize = 257;
 
+// Fewer bytes than these are added and cleared one at a time: the library's copy and fill are calls of
+// C functions, and take longer for so few.
+const FEW: usize = 4;
+
 /// The first 257 bytes of a line.
 #[derive(Drop)]
 pub struct LineBuffer {
@@ -37,7 +41,13 @@ impl LineBuffer {
     pub fn clear(&mut self)
         ensures { contents self.new ≡ [] }
     {
-        self.bytes.clear();
+        if self.bytes.len() < FEW {
+            for _ in 0..self.bytes.len() {
+                let _last = self.bytes.pop();
+            }
+        } else {
+            self.bytes.clear();
+        }
     }
 
     /// What is kept of the line.
@@ -47,11 +57,11 @@ impl LineBuffer {
         self.bytes.as_slice()
     }
 
-    /// Adds a byte to the line.
+    /// Adds a byte to the line, if there is room.
     pub fn push(&mut self, byte: u8)
         ensures { contents self.new ≡ kept (contents self.old ++ byte ∷ []) }
     {
-        self.extend(&[byte]);
+        let _fits = self.bytes.try_push(byte);
     }
 
     /// Adds a block up to the line's end, and answers where in the block the end is, if it is there.
@@ -64,10 +74,22 @@ impl LineBuffer {
         end
     }
 
-    // A write takes as many bytes as there is room for.
+    // What finds no room is dropped: a write takes as many bytes as fit.
     fn extend(&mut self, bytes: &[u8])
         ensures { contents self.new ≡ kept (contents self.old ++ bytes.now) }
     {
-        let _taken = self.bytes.write(bytes);
+        if bytes.len() < FEW {
+            self.push_each(bytes);
+        } else {
+            let _taken = self.bytes.write(bytes);
+        }
+    }
+
+    fn push_each(&mut self, bytes: &[u8])
+        ensures { contents self.new ≡ kept (contents self.old ++ bytes.now) }
+    {
+        for &byte in bytes {
+            self.push(byte);
+        }
     }
 }

@@ -38,7 +38,10 @@ impl<W: Write + Drop> Output<W> {
         ensures written { self.new.error ≡ None → IfSome (D.output text) (Appends (writer_contents W.contents self.old.writer) (writer_contents W.contents self.new.writer)) }
     {
         if self.error.is_none() {
-            self.error = write!(self.writer, "{text}").err();
+            // The field is written only where there is an error: it is large, and this runs for each text.
+            if let Err(e) = write!(self.writer, "{text}") {
+                self.error = Some(e);
+            }
         }
     }
 

@@ -1,0 +1,7 @@
+use Rattle.std.proofs.Common.{◌≡◌, ◌^◌, ◌<◌, drop}
+use Rattle.std.specs.Str.Parse.{digits_value, digits_value_after}
+use Rattle.std.specs.Str.{all_ascii_digits}
+use Rattle.lines.proofs.number.read.Given as goal
+
+abbrev pub invariant-loop-digit : goal.invariant-loop-digit
+invariant-loop-digit l = (all_ascii_digits (drop l.digit-index l.digits) ≡ all_ascii_digits l.digits) × (digits_value_after 10 l.n (drop l.digit-index l.digits) ≡ digits_value 10 l.digits) × (l.n < 10 ^ l.digit-index)
