@@ -47,3 +47,13 @@ fn a_full_side_of_the_register_refuses_and_the_other_takes(rt: HostRuntime) {
     assert!(rt; store.put(aria, 0, first).is_err());
     assert!(rt; store.put(crossword, 0, first).is_ok());
 }
+
+#[test]
+fn a_cell_prints_its_links_as_numbers(rt: HostRuntime) {
+    let cell = Cell::new(7u32, 9u32);
+    let text = format!(in rt.alloc(); "{cell:?}").expect(&rt, "memory for the text");
+    assert_eq!(rt;
+        text.as_str(),
+        "Cell { key: 7, value: 9, first: 32768, next: 32768 }"
+    );
+}

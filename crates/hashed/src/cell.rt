@@ -2,9 +2,19 @@
 ghost use Rattle.std.specs.Prelude.{◌≡◌, ◌<◌};
 ghost use Rattle.hashed.specs.Cells.{nowhere, target};
 
+use std::fmt;
+use std::fmt::{Debug, Formatter, Write};
+
 /// Leads to a cell by its number. A number past the cells in use leads to none: that link ends a list.
-#[derive(Clone, Copy, PartialEq, Eq, Debug)]
+#[derive(Clone, Copy, PartialEq, Eq)]
 pub struct Link(pub u16);
+
+/// A link prints as its number.
+impl Debug for Link {
+    fn fmt<W: Write>(&self, f: &mut Formatter<W>) -> fmt::Result {
+        Debug::fmt(&self.0, f)
+    }
+}
 
 impl Link {
     /// Leads to no cell.
