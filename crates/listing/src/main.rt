@@ -29,7 +29,11 @@ fn run(rt: &HostRuntime) -> io::Result<()> {
     let mut lines = Reader::new(rt.alloc(), rt.stdin())?;
     let mut out = Output::new(rt.alloc(), rt.stdout())?;
     read(&mut lines, &mut listing, &mut out);
-    out.text(&listing);
+    // One text is one write. Without memory for it the report goes out piece by piece.
+    match listing.to_string(rt.alloc()) {
+        Ok(report) => out.text(&report),
+        Err(_) => out.text(&listing),
+    }
     let written = out.finish();
     lines.finish()?;
     written
