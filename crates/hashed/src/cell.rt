@@ -11,6 +11,10 @@ pub struct Link(pub u16);
 
 /// A link prints as its number.
 impl Debug for Link {
+    ghost use Rattle.std.specs.Prelude.{Some, decimal};
+
+    ghost debug_output = { λ link. Some (decimal link.0) };
+
     fn fmt<W: Write>(&self, f: &mut Formatter<W>) -> fmt::Result {
         Debug::fmt(&self.0, f)
     }
