@@ -1,6 +1,12 @@
 //! Reads places under their answers, and lists them by the LETTERS keys of the answers.
 #![tactic(auto)]
 
+ghost use Rattle.std.specs.Prelude.{◌≡◌, true, None, is_some};
+ghost use Rattle.std.specs.Io.Buffered.{writer_contents};
+ghost use Rattle.std.specs.Io.KnownBytes.{Appends};
+ghost use Rattle.listing.specs.Listing.{contents};
+ghost use Rattle.listing.specs.Report.{report_text};
+
 mod listing;
 mod parser;
 
@@ -10,6 +16,7 @@ use lines::reader::Reader;
 use listing::Listing;
 use ordered::Cell;
 use parser::{Entry, parse};
+use std::alloc::Global;
 use std::io;
 use std::io::{Read, Write};
 
@@ -29,11 +36,7 @@ fn run(rt: &HostRuntime) -> io::Result<()> {
     let mut lines = Reader::new(rt.alloc(), rt.stdin())?;
     let mut out = Output::new(rt.alloc(), rt.stdout())?;
     read(&mut lines, &mut listing, &mut out);
-    // One text is one write. Without memory for it the report goes out piece by piece.
-    match listing.to_string(rt.alloc()) {
-        Ok(report) => out.text(&report),
-        Err(_) => out.text(&listing),
-    }
+    write_report(rt.alloc(), &listing, &mut out);
     let written = out.finish();
     lines.finish()?;
     written
@@ -54,5 +57,16 @@ fn read<R: Read, W: Write + Drop>(
             }
             None => out.line("?"),
         }
+    }
+}
+
+// Writes the report: as one text, and so in one write, where there is memory for it, and else piece by piece.
+fn write_report<W: Write + Drop>(heap: Global, listing: &Listing, out: &mut Output<W>)
+    ensures after_error { is_some out.old.error ≡ true → out.new ≡ out.old }
+    ensures written { out.new.error ≡ None → Appends (writer_contents W.contents out.old.writer) (writer_contents W.contents out.new.writer) (report_text (contents listing.now)) }
+{
+    match listing.to_string(heap) {
+        Ok(report) => out.text(&report),
+        Err(_) => out.text(listing),
     }
 }
